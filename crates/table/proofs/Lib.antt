@@ -1,0 +1,3 @@
+pub mod Forms
+pub mod Scans
+pub mod Windows

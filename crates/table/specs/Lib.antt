@@ -1,0 +1,7 @@
+pub mod Edges
+pub mod Examination
+pub mod Expressions
+pub mod Lists
+pub mod Records
+pub mod Refusals
+pub mod Reports
