@@ -11,7 +11,7 @@ use Rattle.std.specs.declared.option.Option.the-variants.{Some, None}
 use Rattle.table.specs.Edges.{edgeFault, procAt, absent, missing, missingIn, unfit, unfitFor, malformed, untrue, untrueIn}
 use Rattle.table.specs.Lists.{Lists, Proc}
 use Rattle.table.specs.Records.{kindOf}
-use Rattle.table.specs.Refusals.{first}
+use Rattle.refusal.specs.Refusals.{first}
 use Rattle.table.specs.declared.record.Edge.{Edge}
 use Rattle.table.specs.declared.record.Signal.{Signal}
 

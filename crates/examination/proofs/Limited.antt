@@ -8,9 +8,9 @@ use Rattle.std.specs.Finite.{nth}
 use Rattle.std.specs.declared.option.Option.the-variants.{Some, None}
 use Rattle.std.proofs.shelf.Maps.{nth-getD, nth-past}
 use Rattle.table.specs.Examination.{answerAt, limited}
-use Rattle.table.specs.Refusals.{refusal}
-use Rattle.table.specs.declared.refusal.Layer.{Layer}
-use Rattle.table.specs.declared.refusal.Place.{Place}
+use Rattle.refusal.specs.Refusals.{refusal}
+use Rattle.refusal.specs.declared.fault.Layer.{Layer}
+use Rattle.refusal.specs.declared.fault.Place.{Place}
 
 module _ {A : Type 0} (bad : A → Bool) (xs : List A) (i : ℕ) where
   pub limited-at : (d x : A) (b : Bool) → i < length xs → x ≡ getD xs i d → bad x ≡ b → answerAt (limited bad) i (nth xs i) ≡ cond b (Some (refusal 3 Layer.Table (Place.At i))) None

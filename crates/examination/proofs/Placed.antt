@@ -14,7 +14,7 @@ use Rattle.table.specs.Examination.{acts, waits, frees, mixed, stuck, badProces
 use Rattle.table.specs.Expressions.{any}
 use Rattle.table.specs.Lists.{Lists, Proc}
 use Rattle.examination.specs.Locations.{flagged, agree, hasAt}
-use Rattle.table.specs.Refusals.{refusal}
+use Rattle.refusal.specs.Refusals.{refusal}
 use Rattle.examination.proofs.Nearest.{location-cong, first-passes, passes-parts}
 use Rattle.examination.proofs.Raised.{Raised}
 

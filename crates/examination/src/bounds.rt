@@ -3,11 +3,11 @@ ghost use mathlib.Core.Path.{_≡_};
 ghost use lib.ListN.{length};
 ghost use Rattle.std.specs.Finite.{nth};
 ghost use Rattle.table.specs.Examination.{answerAt, limited, badProcess, badSignal, listsRefused, processesRefused, signalsRefused, limitsRefused};
-ghost use Rattle.table.specs.Refusals.{outcome, tableRefusal};
+ghost use Rattle.refusal.specs.Refusals.{outcome, tableRefusal};
+use refusal::fault::TableFault;
 use table::limits;
 use table::questions::Table;
 use table::record::Process;
-use table::refusal::TableFault;
 
 fn check_lists<T: Table>(table: &T) -> Result<(), TableFault>
     ensures { λ r. ⌜ outcome tableRefusal r ≡ listsRefused (lists (now (table .entry))) ⌝ }

@@ -3,7 +3,8 @@ ghost use mathlib.Core.Path.{_≡_};
 ghost use Rattle.table.specs.Edges.{missingIn, unfitFor, malformed, numbersBad, guardBad, valueBad, untrueIn, edgeFault};
 ghost use Rattle.table.specs.Lists.{meant};
 ghost use Rattle.table.specs.Records.{kindOf, modeOf};
-ghost use Rattle.table.specs.Refusals.{outcome, edgeNumber};
+ghost use Rattle.refusal.specs.Refusals.{outcome, edgeNumber};
+use refusal::fault::EdgeFault;
 use table::expression::is_sound;
 use table::limits;
 use table::questions::Table;
@@ -13,7 +14,6 @@ use table::record::Kind;
 use table::record::Mode;
 use table::record::Process;
 use table::record::Signal;
-use table::refusal::EdgeFault;
 
 /// Whether the edge may stand in the table, and if not, what is wrong with it first.
 pub fn check<T: Table>(table: &T, edge: &Edge) -> Result<(), EdgeFault>

@@ -2,12 +2,12 @@
 ghost use mathlib.Core.Path.{_≡_};
 ghost use Rattle.std.specs.Finite.{nth};
 ghost use Rattle.table.specs.Examination.{answerAt, edgeRefused, edgesRefused, examined};
-ghost use Rattle.table.specs.Refusals.{outcome, tableRefusal};
+ghost use Rattle.refusal.specs.Refusals.{outcome, tableRefusal};
 use crate::bounds::check_limits;
 use crate::location::check_locations;
+use refusal::fault::BadEdge;
+use refusal::fault::TableFault;
 use table::questions::Table;
-use table::refusal::BadEdge;
-use table::refusal::TableFault;
 
 mod bounds;
 pub mod edge;

@@ -7,12 +7,12 @@ ghost use Rattle.std.specs.declared.option.Option.the-variants.{None};
 ghost use Rattle.examination.specs.Locations.{hasAt, noted, passes, flagged};
 ghost use Rattle.table.specs.Examination.{leaves, answerAt, firstFrom, locationIn, firstLocation, limitsRefused, locationsRefused};
 ghost use Rattle.table.specs.Expressions.{any};
-ghost use Rattle.table.specs.Refusals.{outcome, tableRefusal};
+ghost use Rattle.refusal.specs.Refusals.{outcome, tableRefusal};
 use crate::flags::Locations;
+use refusal::fault::TableFault;
 use table::questions::Table;
 use table::record::Edge;
 use table::record::Process;
-use table::refusal::TableFault;
 
 /// A sort of edges.
 #[derive(Clone, Copy)]

@@ -25,18 +25,18 @@ use Rattle.std.specs.declared.result.Result.the-variants.{Ok, Err}
 use Rattle.std.specs.shelf.Lists.{sumBy}
 use Rattle.listing.specs.declared.lines.Sort.{Sort}
 use Rattle.listing.specs.declared.lines.Sort.the-variants.{Variable, Timer}
-use Rattle.marking.specs.Instances.{ofProcess}
-use Rattle.marking.specs.Rules.{Marking, Least}
-use Rattle.marking.specs.Words.{marking, total}
-use Rattle.marking.specs.declared.marks.Marks.{Marks}
-use Rattle.sheet.specs.Opening.{Opened, opened}
+use Rattle.marks.specs.Instances.{ofProcess}
+use Rattle.marks.specs.Rules.{Marking, Least}
+use Rattle.marks.specs.Words.{marking, total}
+use Rattle.marks.specs.declared.marks.Marks.{Marks}
+use Rattle.reading.specs.Opening.{Opened, opened}
 use Rattle.sheet.specs.Views.{listsOf}
 use Rattle.sheet.specs.declared.view.Sheet.{Sheet}
 use Rattle.table.specs.Edges.{blank}
 use Rattle.table.specs.Examination.{examined}
 use Rattle.table.specs.Lists.{Lists, Proc}
-use Rattle.table.specs.Reports.{refusalText}
-use Rattle.table.specs.declared.refusal.Refusal.{Refusal}
+use Rattle.refusal.specs.Reports.{refusalText}
+use Rattle.refusal.specs.declared.fault.Refusal.{Refusal}
 
 unfoldable pub eachFrom : (ℕ → List ℕ) → ℕ → ℕ → List ℕ
 eachFrom f i zero = []

@@ -5,16 +5,16 @@ ghost use Rattle.std.specs.Results.{errPart};
 ghost use Rattle.std.specs.Vec.{made};
 ghost use Rattle.listing.specs.Listing.{Listed, Judged, refusedText, refusedBy};
 use marking::mark;
-use marking::marks::Marks;
-use sheet::fault::SheetRefused;
+use marks::marks::Marks;
+use reading::fault::SheetRefused;
+use refusal::fault::Refusal;
+use refusal::report::RefusalDisplay;
+use refusal::report::TableRefusal;
 use sheet::opening::open_sheet;
 use sheet::view::Sheet;
 use sheet::view::SheetTable;
 use std::alloc::AllocError;
 use std::alloc::Global;
-use table::refusal::Refusal;
-use table::report::RefusalDisplay;
-use table::report::TableRefusal;
 
 pub mod lines;
 

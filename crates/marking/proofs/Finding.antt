@@ -10,7 +10,7 @@ use Rattle.std.specs.Finite.{nth}
 use Rattle.std.specs.declared.option.Option.the-variants.{Some}
 use Rattle.std.specs.shelf.Lists.{joined}
 use Rattle.table.specs.Expressions.{any}
-use Rattle.marking.specs.Rules.{indices}
+use Rattle.marks.specs.Rules.{indices}
 
 -- an element of xs with a property, and its place
 pub record Found {A : Type 0} (P : A → Type 0) (xs : List A) : Type 0 where

@@ -18,8 +18,8 @@ use Rattle.table.specs.declared.record.Kind.{Kind}
 use Rattle.table.specs.declared.record.Kind.the-variants.{Input, Output, Assignment, Set, Reset, Timeout, Rearm, Skip, Unknown}
 use Rattle.marking.specs.Leads.{listed, received, receivedAs, touches, touchesAs, isInternal, isInbound, fed, fedAs, seeds, passed, fedBy, fromInstance, fromSignal, leads}
 use Rattle.marking.specs.Nodes.{node}
-use Rattle.marking.specs.Rules.{classAt, stores, storesAs, turns, turnsAs}
-use Rattle.marking.proofs.Good.{Named}
+use Rattle.marks.specs.Rules.{classAt, stores, storesAs, turns, turnsAs}
+use Rattle.marks.proofs.Good.{Named}
 
 not-some : {A : Type 0} (x : A) → None ≡ Some x → ⊥
 not-some x e = let z : _≡_ {A = ℕ} 0 1 = cc in omega arith

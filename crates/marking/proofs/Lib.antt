@@ -1,13 +1,9 @@
-pub mod Bitwise
 mod Closure
-pub mod Counting
 pub mod Finding
-pub mod Good
 mod Growing
 mod Leading
 mod Nodes
 mod Obeying
-mod Owning
 pub mod Places
 mod Pushing
 mod Reaching

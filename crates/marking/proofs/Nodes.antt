@@ -10,10 +10,10 @@ use lib.ListN.{getD, set, take, length, replicate}
 use Rattle.std.proofs.shelf.Bits.{one-shl}
 use Rattle.std.proofs.shelf.Lists.{getD-set-same, getD-set-other, getD-take, getD-past, getD-replicate, length-set, length-replicate}
 use Rattle.std.proofs.shelf.Tests.{cases-eq, cases-lt, eq-eqb, ne-eqb, or-right}
-use Rattle.marking.specs.Words.{bit, one, sumBelow}
+use Rattle.marks.specs.Words.{bit, one, sumBelow}
 use Rattle.marking.specs.Nodes.{has, mark, unset}
-use Rattle.marking.proofs.Bitwise.{bit-or, bit-pow, bit-zero}
-use Rattle.marking.proofs.Counting.{sum-none, sum-more, sum-same}
+use Rattle.marks.proofs.Bitwise.{bit-or, bit-pow, bit-zero}
+use Rattle.marks.proofs.Counting.{sum-none, sum-more, sum-same}
 
 -- as the code writes it
 pub mark-shifted : (ws : List ℕ) (i : ℕ) → set ws (i / 16) (bitOr (getD ws (i / 16) 0) (1 * 2 ^ (i % 16) % 65536)) ≡ mark ws i

@@ -21,11 +21,11 @@ use Rattle.table.specs.declared.record.Kind.{Kind}
 use Rattle.table.specs.declared.record.Kind.the-variants.{Input, Output, Assignment, Set, Reset, Timeout, Rearm, Skip, Unknown}
 use Rattle.marking.specs.Leads.{received, touches, isInternal, isInbound, seeds, leads}
 use Rattle.marking.specs.Nodes.{node, has}
-use Rattle.marking.specs.Rules.{Marking, Obeys, EdgeObeys, marked, signalMarked, classAt, arrives, arrivesAs}
-use Rattle.marking.specs.Words.{marksIn}
+use Rattle.marks.specs.Rules.{Marking, Obeys, EdgeObeys, marked, signalMarked, classAt, arrives, arrivesAs}
+use Rattle.marks.specs.Words.{marksIn}
 use Rattle.marking.proofs.Closure.{Closed}
 use Rattle.marking.proofs.Finding.{found-joined}
-use Rattle.marking.proofs.Good.{Good, GoodProcess, Named}
+use Rattle.marks.proofs.Good.{Good, GoodProcess, Named}
 use Rattle.marking.proofs.Leading.{Feeds, assigns, times, sends, receives, seeds-lead, passes, value-leads, signal-leads, variable-untouched, timer-untouched}
 use Rattle.marking.proofs.Reading.{variable-stands, timer-stands, stands-variable, stands-timer, marked-mentions, signal-sent}
 

@@ -17,11 +17,11 @@ use Rattle.table.specs.declared.record.Class.the-variants.{Internal, Inbound, O
 use Rattle.table.specs.declared.record.Edge.{Edge}
 use Rattle.marking.specs.Leads.{touches, isInternal, isInbound, seeds, leads}
 use Rattle.marking.specs.Nodes.{node}
-use Rattle.marking.specs.Rules.{Marking, Obeys, Within, Least, marked, signalMarked, classAt, arrives, arrivesAs}
-use Rattle.marking.specs.Words.{marksIn}
+use Rattle.marks.specs.Rules.{Marking, Obeys, Within, Least, marked, signalMarked, classAt, arrives, arrivesAs}
+use Rattle.marks.specs.Words.{marksIn}
 use Rattle.marking.proofs.Closure.{Closed, Reach, begun, led}
 use Rattle.marking.proofs.Finding.{joined-found}
-use Rattle.marking.proofs.Good.{Good, Named}
+use Rattle.marks.proofs.Good.{Good, Named}
 use Rattle.marking.proofs.Leading.{Receives, Feeds, assigns, times, sends, Led, passing, feeding, receiving, seeds-inv, leads-inv, untouched-variable, untouched-timer}
 use Rattle.marking.proofs.Obeying.{Bounds, bounds, largest, closed-obeys}
 use Rattle.marking.proofs.Reading.{variable-stands, timer-stands, mentions-marked, sent-signal}

@@ -17,9 +17,9 @@ use Rattle.table.specs.declared.record.Kind.{Kind}
 use Rattle.table.specs.declared.record.Kind.the-variants.{Input, Output, Assignment, Set, Reset, Timeout, Rearm, Skip, Unknown}
 use Rattle.table.specs.declared.record.Span.{Span}
 use Rattle.marking.specs.Nodes.{node, has}
-use Rattle.marking.specs.Rules.{Marking, indices, marked, isOutput, signalMarked}
-use Rattle.marking.specs.Words.{bit, wordAt, marksIn}
-use Rattle.marking.proofs.Bitwise.{bit-zero}
+use Rattle.marks.specs.Rules.{Marking, indices, marked, isOutput, signalMarked}
+use Rattle.marks.specs.Words.{bit, wordAt, marksIn}
+use Rattle.marks.proofs.Bitwise.{bit-zero}
 use Rattle.marking.proofs.Finding.{any-found, found-any, index-at}
 use Rattle.marking.proofs.Nodes.{has-at, has-take}
 

@@ -12,7 +12,7 @@ use Rattle.table.specs.Examination.{examined, limitsRefused, locationsRefused, 
 use Rattle.table.specs.Expressions.{any, sound, formed}
 use Rattle.table.specs.declared.record.Edge.{Edge}
 use Rattle.marking.specs.Example.{small, edge, span, Told, Shown}
-use Rattle.marking.specs.Rules.{Marking, Least, EdgeObeys, Obeys, marked, indices}
+use Rattle.marks.specs.Rules.{Marking, Least, EdgeObeys, Obeys, marked, indices}
 use Rattle.marking.proofs.Reading.{mentions-marked, sent-signal}
 
 -- everything but variable 0 at location 0

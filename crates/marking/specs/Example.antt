@@ -18,7 +18,7 @@ use Rattle.table.specs.Lists.{Lists}
 use Rattle.table.specs.declared.record.Edge.{Edge}
 use Rattle.table.specs.declared.record.Span.{Span}
 use Rattle.table.specs.declared.record.Timer.the-variants.{Off}
-use Rattle.marking.specs.Rules.{Marking, Least}
+use Rattle.marks.specs.Rules.{Marking, Least}
 
 abbrev pub span : ℕ → ℕ → Span
 span s n = record { start = s; count = n }

@@ -26,7 +26,7 @@ use Rattle.table.specs.declared.record.Edge.{Edge}
 use Rattle.table.specs.declared.record.Kind.{Kind}
 use Rattle.table.specs.declared.record.Kind.the-variants.{Input, Output, Assignment, Set, Reset, Timeout, Rearm, Skip, Unknown}
 use Rattle.marking.specs.Nodes.{node}
-use Rattle.marking.specs.Rules.{classAt}
+use Rattle.marks.specs.Rules.{classAt}
 
 abbrev pub listed : Option ℕ → List ℕ
 listed None = []

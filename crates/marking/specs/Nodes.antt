@@ -8,7 +8,7 @@ use mathlib.Core.Bool.{Bool, not}
 use mathlib.Core.List.{List}
 use lib.Bits.{bitOr}
 use lib.ListN.{getD, set}
-use Rattle.marking.specs.Words.{bit, one, sumBelow}
+use Rattle.marks.specs.Words.{bit, one, sumBelow}
 
 abbrev pub node : ℕ → ℕ → ℕ → ℕ
 node p l b = 256 * p + 16 * l + b

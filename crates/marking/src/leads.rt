@@ -1,7 +1,7 @@
 //! Which nodes an edge leads to.
 ghost use mathlib.Core.Path.{_≡_};
 ghost use Rattle.marking.specs.Leads.{received, touches, fed};
-ghost use Rattle.marking.specs.Rules.{classAt};
+ghost use Rattle.marks.specs.Rules.{classAt};
 ghost use Rattle.marking.specs.Nodes.{node};
 use table::limits;
 use table::questions::Table;

@@ -2,25 +2,21 @@
 ghost use mathlib.Core.Path.{_≡_};
 ghost use Rattle.std.specs.Vec.{made};
 ghost use Rattle.table.specs.Examination.{examined};
-ghost use Rattle.table.specs.Refusals.{outcome, tableRefusal};
-ghost use Rattle.marking.specs.Instances.{own};
-ghost use Rattle.marking.specs.Rules.{Least, Within};
-ghost use Rattle.marking.specs.Words.{marking};
+ghost use Rattle.refusal.specs.Refusals.{outcome, tableRefusal};
+ghost use Rattle.marks.specs.Instances.{own};
+ghost use Rattle.marks.specs.Rules.{Least, Within};
+ghost use Rattle.marks.specs.Words.{marking};
 use examination::examine;
+use marks::marks::Marks;
+use refusal::fault::TableFault;
 use table::questions::Table;
-use table::refusal::TableFault;
 
-mod count;
 pub mod example;
 mod follow;
 mod leads;
-pub mod marks;
 mod queue;
 mod search;
 mod solver;
-
-pub use count::instances;
-use marks::Marks;
 
 /// The least marks of a table, which is examined first.
 pub fn mark<T: Table>(table: &T) -> Result<Marks, TableFault>

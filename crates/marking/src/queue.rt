@@ -6,10 +6,10 @@ ghost use Prim.Native.Nat.{ℕ, _<_};
 ghost use Rattle.std.specs.Options.{Cases};
 ghost use Rattle.marking.specs.Nodes.{has};
 ghost use Rattle.marking.specs.Queue.{state, push};
-use crate::marks::bit;
 use crate::search::NODES;
 use crate::search::Search;
 use crate::search::WORDS;
+use marks::marks::bit;
 use ring::Ring;
 
 impl Search {

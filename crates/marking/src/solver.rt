@@ -1,15 +1,17 @@
 //! The search for the least marks: inputs of inbound signals first, then whatever a marked node leads to.
 ghost use mathlib.Core.Path.{_≡_};
+ghost use lib.ListN.{take};
 ghost use Rattle.std.specs.declared.option.Option.the-variants.{None};
 ghost use Rattle.std.specs.shelf.Lists.{joined};
-ghost use Rattle.marking.specs.Instances.{own};
+ghost use Rattle.marks.specs.Instances.{own};
 ghost use Rattle.marking.specs.Leads.{leads, seeds};
 ghost use Rattle.marking.specs.Queue.{state, pushes};
-ghost use Rattle.marking.specs.Rules.{Least, Within};
-ghost use Rattle.marking.specs.Words.{marking};
+ghost use Rattle.marks.specs.Rules.{Least, Within};
+ghost use Rattle.marks.specs.Words.{marking};
 ghost use Rattle.table.specs.Examination.{examined};
-use crate::marks::Marks;
 use crate::search::Search;
+use crate::search::WORDS;
+use marks::marks::Marks;
 use table::questions::Table;
 
 impl Search {
@@ -45,5 +47,14 @@ pub fn least<T: Table>(table: &T) -> Marks
     while let Some(node) = search.pop() {
         search.spread(table, node);
     }
-    Marks::found(&search.words)
+    found(&search.words)
+}
+
+/// The marks of locations are the first words of a search; those of signals follow.
+fn found(words: &[u16; WORDS]) -> Marks
+    ensures value { λ r. ⌜ r .words ≡ take 128 (now (words .entry)) ⌝ }
+{
+    let mut first = [0; 128];
+    first.copy_from_slice(&words[..128]);
+    Marks::of(first)
 }

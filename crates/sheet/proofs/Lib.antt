@@ -1,9 +1,2 @@
-pub mod Chains
 pub mod Examples
-pub mod Loads
-pub mod Naming
-pub mod Numbers
-pub mod Rows
-pub mod Sizes
-pub mod Viewing
 pub mod Wholes

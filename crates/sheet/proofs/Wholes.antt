@@ -7,17 +7,18 @@ use native.Mathlib.Omega.{arith}
 use lib.ListN.{take, drop, length}
 use Rattle.std.specs.declared.result.Result.{Result}
 use Rattle.std.specs.declared.result.Result.the-variants.{Ok, Err}
-use Rattle.sheet.proofs.Chains.{after-got, read}
-use Rattle.sheet.specs.Formats.{Answer, got, many, filled, ended}
-use Rattle.sheet.specs.Layout.{headerFormat, processFormat, signalFormat, edgeFormat, termFormat, nameFormat, sheetFormat}
-use Rattle.sheet.proofs.Viewing.{length-row, length-processes}
-use Rattle.sheet.specs.Opening.{Opened, processesBits, edgesBit, namesByte, placed, split}
-use Rattle.sheet.specs.Readings.{Reads}
-use Rattle.sheet.specs.Views.{noEdge, noTerm, namedAt, namesOf, openedOf, contentsOf, listsOf, processesAt, signalsAt, edgesAt, termsAt, textsAt}
-use Rattle.sheet.specs.declared.fault.SheetFault.{SheetFault}
-use Rattle.sheet.specs.declared.reader.Reader.{Reader}
+use Rattle.reading.proofs.Chains.{after-got, read}
+use Rattle.reading.specs.Formats.{Answer, got, many, filled, ended}
+use Rattle.reading.specs.Layout.{headerFormat, processFormat, signalFormat, edgeFormat, termFormat, nameFormat, sheetFormat}
+use Rattle.reading.proofs.Viewing.{length-row, length-processes}
+use Rattle.reading.specs.Opening.{Opened, processesBits, edgesBit, namesByte, placed, split}
+use Rattle.reading.specs.Readings.{Reads}
+use Rattle.reading.specs.Rows.{noEdge, noTerm, namedAt, processesAt, signalsAt, edgesAt, termsAt, textsAt}
+use Rattle.sheet.specs.Views.{namesOf, openedOf, contentsOf, listsOf}
+use Rattle.reading.specs.declared.fault.SheetFault.{SheetFault}
+use Rattle.reading.specs.declared.reader.Reader.{Reader}
 use Rattle.sheet.specs.declared.view.Sheet.{Sheet}
-use Rattle.sheet.specs.declared.records.Counts.{Counts}
+use Rattle.reading.specs.declared.records.Counts.{Counts}
 use Rattle.table.specs.Edges.{absent}
 use Rattle.table.specs.Lists.{Proc}
 use Rattle.table.specs.declared.record.Edge.{Edge}
@@ -109,3 +110,7 @@ module _ {s0 s1 s2 s3 s4 s5 s6 s7 s8 : Reader} {n : Counts} (places : List ℕ) 
       subst (λ (k : ℕ). placed (s6 .place / 8) (textsAt bs (s6 .place / 8) k) ≡ namedAt bs (s6 .place / 8) k) em laid2 in
       let with : ℕ → Opened = λ k. record { lists = T; processNames = take k (namesOf s); signalNames = drop k (namesOf s) } in
       sym (ap (λ k. split T (placed k texts)) a ∙ ap (split T) names ∙ ap with l)
+
+pub length-edges : (s : Sheet) → length (listsOf s .edges) ≡ s .counts .edges
+unfolding listsOf
+length-edges s = length-row edgeFormat noEdge (now (s .bytes)) (s .«edges_at») 60 (s .counts .edges)

@@ -12,17 +12,17 @@ use lib.ListN.{take, set}
 use Rattle.std.specs.declared.option.Option.the-variants.{Some}
 use Rattle.std.specs.declared.result.Result.{Result}
 use Rattle.std.specs.declared.result.Result.the-variants.{Ok, Err}
-use Rattle.sheet.specs.Opening.{Opened, opened}
+use Rattle.reading.specs.Opening.{Opened, opened}
 use Rattle.table.specs.Lists.{Lists, Proc}
-use Rattle.table.specs.Refusals.{refusal}
+use Rattle.refusal.specs.Refusals.{refusal}
 use Rattle.table.specs.declared.record.Edge.{Edge}
 use Rattle.table.specs.declared.record.Signal.{Signal}
 use Rattle.table.specs.declared.record.Span.{Span}
 use Rattle.table.specs.declared.record.Term.{Term}
 use Rattle.table.specs.declared.record.Timer.the-variants.{Off}
-use Rattle.table.specs.declared.refusal.Layer.{Layer}
-use Rattle.table.specs.declared.refusal.Place.{Place}
-use Rattle.table.specs.declared.refusal.Refusal.{Refusal}
+use Rattle.refusal.specs.declared.fault.Layer.{Layer}
+use Rattle.refusal.specs.declared.fault.Place.{Place}
+use Rattle.refusal.specs.declared.fault.Refusal.{Refusal}
 
 unfoldable pub gate : List ℕ
 gate =

@@ -1,7 +1,2 @@
 pub mod Example
-pub mod Faults
-pub mod Formats
-pub mod Layout
-pub mod Opening
-pub mod Readings
 pub mod Views

@@ -2,9 +2,10 @@
 ghost use Prim.Native.Nat.{_+_, _^_, _<_, _≤_};
 ghost use mathlib.Core.Path.{_≡_};
 ghost use Rattle.std.specs.Finite.{nth};
-ghost use Rattle.sheet.specs.Views.{bytesOf, nameStart, textAt, openedOf, heard};
-use crate::reader::Reader;
+ghost use Rattle.reading.specs.Rows.{nameStart, textAt};
+ghost use Rattle.sheet.specs.Views.{bytesOf, openedOf, heard};
 use crate::view::Sheet;
+use reading::reader::Reader;
 
 impl<'a> Sheet<'a> {
     /// The byte with the length of name k, counted over processes and then signals.

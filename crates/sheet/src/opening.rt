@@ -5,55 +5,53 @@ ghost use Rattle.std.specs.Finite.{nth};
 ghost use Rattle.std.specs.Results.{mapped};
 ghost use Rattle.std.specs.Vec.{made};
 ghost use Rattle.table.specs.Examination.{answerAt, firstAt};
-ghost use Rattle.table.specs.Refusals.{outcome};
-ghost use Rattle.sheet.specs.Faults.{edgeAtRefusal, sheetRefusal};
-ghost use Rattle.sheet.specs.Layout.{sheetFormat};
-ghost use Rattle.sheet.specs.Opening.{edgesBit, namesByte, placed, split, edgeRefusedAt, opened};
-ghost use Rattle.sheet.specs.Readings.{Reads};
+ghost use Rattle.refusal.specs.Refusals.{outcome};
+ghost use Rattle.reading.specs.Faults.{edgeAtRefusal, sheetRefusal};
+ghost use Rattle.reading.specs.Layout.{sheetFormat};
+ghost use Rattle.reading.specs.Opening.{edgesBit, namesByte, placed, split, edgeRefusedAt, opened};
+ghost use Rattle.reading.specs.Readings.{Reads};
 ghost use Rattle.sheet.specs.Views.{contentsOf, listsOf, openedOf};
-use crate::fault::EdgeAt;
-use crate::fault::EdgeInSheet;
-use crate::fault::SheetFault;
-use crate::reader::Reader;
-use crate::records::EDGE_BITS;
 use crate::view::Sheet;
 use crate::view::SheetTable;
 use examination::edge;
+use reading::fault::EdgeAt;
+use reading::fault::EdgeInSheet;
+use reading::fault::SheetFault;
+use reading::reader::Reader;
+use reading::records::EDGE_BITS;
+use refusal::fault::BadEdge;
 use table::limits;
 use table::questions::Table;
-use table::refusal::BadEdge;
 
-impl<'a> Reader<'a> {
-    /// All parts of a sheet.
-    pub fn sheet(&mut self) -> Result<Sheet<'a>, SheetFault>
-        requires { ⌜ now self .place ≡ 0 ⌝ }
-        ensures reads { λ r. ⌜ Reads (sheetFormat .reads) contentsOf (now (self .entry)) r (now (self .exit)) ⌝ }
-        ensures edges { λ r. ⌜ made r (λ s. s .«edges_at» ≡ edgesBit (listsOf s)) ⌝ }
-        ensures names { λ r. ⌜ made r (λ s. openedOf s ≡ split (listsOf s) (placed (namesByte (listsOf s)) (contentsOf s .names))) ⌝ }
-    {
-        let counts = self.header()?;
-        let mut places = [0; limits::PROCESSES];
-        self.processes(counts.processes, &mut places)?;
-        let signals_at = self.place as u32;
-        self.signals(counts.signals, counts.processes)?;
-        let edges_at = self.place as u32;
-        self.edges(counts.edges)?;
-        let terms_at = self.place as u32;
-        self.terms(counts.terms)?;
-        self.fill()?;
-        let names_at = (self.place / 8) as u32;
-        self.names(usize::from(counts.processes) + usize::from(counts.signals))?;
-        self.end()?;
-        Ok(Sheet {
-            bytes: self.bytes,
-            counts,
-            places,
-            signals_at,
-            edges_at,
-            terms_at,
-            names_at,
-        })
-    }
+/// All parts of a sheet.
+fn read_sheet<'a>(reader: &mut Reader<'a>) -> Result<Sheet<'a>, SheetFault>
+    requires { ⌜ now reader .place ≡ 0 ⌝ }
+    ensures reads { λ r. ⌜ Reads (sheetFormat .reads) contentsOf (now (reader .entry)) r (now (reader .exit)) ⌝ }
+    ensures edges { λ r. ⌜ made r (λ s. s .«edges_at» ≡ edgesBit (listsOf s)) ⌝ }
+    ensures names { λ r. ⌜ made r (λ s. openedOf s ≡ split (listsOf s) (placed (namesByte (listsOf s)) (contentsOf s .names))) ⌝ }
+{
+    let counts = reader.header()?;
+    let mut places = [0; limits::PROCESSES];
+    reader.processes(counts.processes, &mut places)?;
+    let signals_at = reader.place as u32;
+    reader.signals(counts.signals, counts.processes)?;
+    let edges_at = reader.place as u32;
+    reader.edges(counts.edges)?;
+    let terms_at = reader.place as u32;
+    reader.terms(counts.terms)?;
+    reader.fill()?;
+    let names_at = (reader.place / 8) as u32;
+    reader.names(usize::from(counts.processes) + usize::from(counts.signals))?;
+    reader.end()?;
+    Ok(Sheet {
+        bytes: reader.bytes,
+        counts,
+        places,
+        signals_at,
+        edges_at,
+        terms_at,
+        names_at,
+    })
 }
 
 /// Whether edge k may stand in the sheet's table.
@@ -90,7 +88,7 @@ fn check_edges(sheet: &Sheet<'_>) -> Result<(), EdgeAt>
 pub fn open_sheet(bytes: &[u8]) -> Result<Sheet<'_>, SheetFault>
     ensures { λ r. ⌜ mapped openedOf sheetRefusal r ≡ opened (now (bytes .entry)) ⌝ }
 {
-    let sheet = Reader { bytes, place: 0 }.sheet()?;
+    let sheet = read_sheet(&mut Reader { bytes, place: 0 })?;
     check_edges(&sheet)?;
     Ok(sheet)
 }

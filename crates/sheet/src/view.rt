@@ -1,11 +1,11 @@
 //! An open sheet: a table that is read in the caller's bytes.
 ghost use mathlib.Core.Path.{_≡_};
 ghost use Rattle.sheet.specs.Views.{listsOf};
-use crate::reader::Reader;
-use crate::records::Counts;
-use crate::records::EDGE_BITS;
-use crate::records::SIGNAL_BITS;
-use crate::records::TERM_BITS;
+use reading::reader::Reader;
+use reading::records::Counts;
+use reading::records::EDGE_BITS;
+use reading::records::SIGNAL_BITS;
+use reading::records::TERM_BITS;
 use table::limits;
 use table::questions::Table;
 use table::record::Edge;

@@ -17,7 +17,7 @@ use Rattle.std.specs.declared.option.Option.{Option}
 use Rattle.table.specs.Expressions.{sound}
 use Rattle.table.specs.Lists.{Lists, Proc}
 use Rattle.table.specs.Records.{kindOf, classOf, modeOf}
-use Rattle.table.specs.Refusals.{first}
+use Rattle.refusal.specs.Refusals.{first}
 use Rattle.table.specs.declared.record.Class.{Class}
 use Rattle.table.specs.declared.record.Class.the-variants.{Internal, Inbound, Outbound, Absent}
 use Rattle.table.specs.declared.record.Edge.{Edge}

@@ -23,7 +23,7 @@ use Rattle.table.specs.Edges.{edgeFault}
 use Rattle.table.specs.Expressions.{any}
 use Rattle.table.specs.Lists.{Lists, Proc}
 use Rattle.table.specs.Records.{kindOf, classOf, modeOf}
-use Rattle.table.specs.Refusals.{refusal}
+use Rattle.refusal.specs.Refusals.{refusal}
 use Rattle.table.specs.declared.record.Class.{Class}
 use Rattle.table.specs.declared.record.Edge.{Edge}
 use Rattle.table.specs.declared.record.Kind.{Kind}
@@ -32,9 +32,9 @@ use Rattle.table.specs.declared.record.Mode.{Mode}
 use Rattle.table.specs.declared.record.Signal.{Signal}
 use Rattle.table.specs.declared.record.Timer.{Timer}
 use Rattle.table.specs.declared.record.Timer.the-variants.{Off, On}
-use Rattle.table.specs.declared.refusal.Layer.{Layer}
-use Rattle.table.specs.declared.refusal.Place.{Place}
-use Rattle.table.specs.declared.refusal.Refusal.{Refusal}
+use Rattle.refusal.specs.declared.fault.Layer.{Layer}
+use Rattle.refusal.specs.declared.fault.Place.{Place}
+use Rattle.refusal.specs.declared.fault.Refusal.{Refusal}
 
 abbrev pub answerAt : {A R : Type 0} → (ℕ → A → Option R) → ℕ → Option A → Option R
 answerAt f i None = None

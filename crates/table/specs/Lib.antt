@@ -3,5 +3,3 @@ pub mod Examination
 pub mod Expressions
 pub mod Lists
 pub mod Records
-pub mod Refusals
-pub mod Reports

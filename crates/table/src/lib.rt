@@ -4,5 +4,3 @@ pub mod judgement;
 pub mod limits;
 pub mod questions;
 pub mod record;
-pub mod refusal;
-pub mod report;

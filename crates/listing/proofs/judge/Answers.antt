@@ -2,10 +2,10 @@ use mathlib.Core.Path.{_≡_, refl, sym, ap, subst, _∙_}
 use Rattle.std.specs.declared.result.Result.{Result}
 use Rattle.std.proofs.shelf.Results.{err-from-errBy, made-from-err}
 use Rattle.listing.specs.Listing.{refusedOf, MarkedOf, Judged}
-use Rattle.marking.specs.Words.{marking}
-use Rattle.sheet.specs.Opening.{Opened}
+use Rattle.marks.specs.Words.{marking}
+use Rattle.reading.specs.Opening.{Opened}
 use Rattle.sheet.specs.Views.{openedOf, listsOf}
-use Rattle.table.specs.declared.refusal.Refusal.{Refusal}
+use Rattle.refusal.specs.declared.fault.Refusal.{Refusal}
 use Rattle.listing.proofs.judge.Needs as need
 
 pub returns-in-Break-marks : need.returns-in-Break-marks

@@ -1,7 +1,7 @@
 use mathlib.Core.Path.{_≡_, refl, sym, ap, _∙_}
 use Rattle.std.proofs.shelf.Results.{err-from-errBy}
 use Rattle.table.specs.Examination.{limitsRefused, listsRefused, processesRefused, signalsRefused}
-use Rattle.table.specs.Refusals.{outcome, tableRefusal}
+use Rattle.refusal.specs.Refusals.{outcome, tableRefusal}
 use Rattle.examination.proofs.bounds.check_limits.Needs as need
 
 pub returns-in-Break-check-lists : need.returns-in-Break-check-lists

@@ -4,7 +4,7 @@ use native.Mathlib.Omega.{arith}
 use lib.ListN.{length}
 use Rattle.std.proofs.shelf.Results.{err-from-errBy}
 use Rattle.table.specs.Examination.{limited, badProcess}
-use Rattle.table.specs.Refusals.{tableRefusal}
+use Rattle.refusal.specs.Refusals.{tableRefusal}
 use Rattle.examination.proofs.Firsts.{first-found, first-passed, first-end}
 use Rattle.examination.proofs.bounds.check_processes.Needs as need
 

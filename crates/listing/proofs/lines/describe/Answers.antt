@@ -3,7 +3,7 @@ use mathlib.Core.List.{_++_, append-assoc}
 use Rattle.std.specs.Of.String.{string-bytes}
 use Rattle.listing.specs.Listing.{eachFrom, tableText, countText}
 use Rattle.listing.proofs.Texts.{begun, grown, ended}
-use Rattle.marking.specs.Words.{marking}
+use Rattle.marks.specs.Words.{marking}
 use Rattle.listing.proofs.lines.describe.Needs as need
 
 pub loop-p-again : need.loop-p-again

@@ -4,7 +4,7 @@ use Rattle.std.specs.Of.String.{string-bytes}
 use Rattle.listing.specs.Listing.{eachFrom, sortText, locationText}
 use Rattle.listing.specs.declared.lines.Sort.the-variants.{Variable, Timer}
 use Rattle.listing.proofs.Texts.{begun, grown, ended}
-use Rattle.marking.specs.Words.{marking}
+use Rattle.marks.specs.Words.{marking}
 use Rattle.table.specs.Lists.{meant}
 use Rattle.listing.proofs.lines.push_locations.Needs as need
 

@@ -3,7 +3,7 @@ use mathlib.Core.List.{_++_}
 use Prim.Native.Nat.{_-_}
 use Rattle.std.specs.Of.String.{string-bytes}
 use Rattle.listing.specs.Listing.{eachFrom, locationText}
-use Rattle.marking.specs.Words.{marking}
+use Rattle.marks.specs.Words.{marking}
 use Rattle.table.specs.Lists.{meant}
 use Rattle.listing.proofs.lines.push_locations.Given as given
 

@@ -3,7 +3,7 @@ use mathlib.Core.List.{_++_}
 use Rattle.std.specs.Of.String.{string-bytes}
 use Rattle.listing.specs.Listing.{eachFrom, sortText, instanceText}
 use Rattle.listing.proofs.Texts.{begun, grown, ended}
-use Rattle.marking.specs.Words.{marking}
+use Rattle.marks.specs.Words.{marking}
 use Rattle.listing.proofs.lines.push_sort.Needs as need
 
 pub loop-n-holds : need.loop-n-holds

@@ -3,7 +3,7 @@ use mathlib.Core.List.{_++_}
 use Prim.Native.Nat.{_-_}
 use Rattle.std.specs.Of.String.{string-bytes}
 use Rattle.listing.specs.Listing.{eachFrom, sortText}
-use Rattle.marking.specs.Words.{marking}
+use Rattle.marks.specs.Words.{marking}
 use Rattle.listing.proofs.lines.push_sort.Given as given
 
 -- with what is still to come the text is whole

@@ -1,14 +1,14 @@
 use mathlib.Core.Path.{sym, ap, subst, _∙_}
 use lib.ListN.{take}
 use Rattle.std.specs.shelf.Lists.{joined}
-use Rattle.marking.specs.Instances.{own}
+use Rattle.marks.specs.Instances.{own}
 use Rattle.marking.specs.Leads.{leads, seeds}
 use Rattle.marking.specs.Queue.{state}
-use Rattle.marking.specs.Rules.{Least}
-use Rattle.marking.specs.Words.{marksIn}
+use Rattle.marks.specs.Rules.{Least}
+use Rattle.marks.specs.Words.{marksIn}
 use Rattle.marking.proofs.Closure.{search-starts, search-steps, search-ends, search-falls}
-use Rattle.marking.proofs.Good.{good}
-use Rattle.marking.proofs.Owning.{own-obeys}
+use Rattle.marks.proofs.Good.{good}
+use Rattle.marks.proofs.Owning.{own-obeys}
 use Rattle.marking.proofs.Reaching.{closed-least}
 use Rattle.marking.proofs.solver.least.Needs as need
 

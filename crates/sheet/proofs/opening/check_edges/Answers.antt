@@ -4,10 +4,10 @@ use denote.Ref.{now}
 use native.Mathlib.Omega.{arith}
 use lib.ListN.{length}
 use Rattle.std.proofs.shelf.Results.{err-from-errBy}
-use Rattle.sheet.specs.Faults.{edgeAtRefusal}
-use Rattle.sheet.specs.Opening.{edgeRefusedAt}
+use Rattle.reading.specs.Faults.{edgeAtRefusal}
+use Rattle.reading.specs.Opening.{edgeRefusedAt}
 use Rattle.sheet.specs.Views.{listsOf}
-use Rattle.sheet.proofs.Viewing.{length-edges}
+use Rattle.sheet.proofs.Wholes.{length-edges}
 use Rattle.sheet.proofs.opening.check_edges.Needs as need
 use Rattle.examination.proofs.Firsts.{first-found, first-passed, first-end}
 

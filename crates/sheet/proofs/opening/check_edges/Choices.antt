@@ -1,6 +1,6 @@
 use mathlib.Core.Path.{_≡_}
 use lib.ListN.{drop}
-use Rattle.sheet.specs.Opening.{edgeRefusedAt}
+use Rattle.reading.specs.Opening.{edgeRefusedAt}
 use Rattle.sheet.specs.Views.{listsOf}
 use Rattle.sheet.proofs.opening.check_edges.Given as given
 use Rattle.table.specs.Examination.{firstAt}

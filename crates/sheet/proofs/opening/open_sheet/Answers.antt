@@ -1,6 +1,6 @@
 use mathlib.Core.Path.{_≡_, sym, ap, _∙_}
 use borrow.Author.Needs.{needs}
-use Rattle.sheet.specs.Opening.{opened}
+use Rattle.reading.specs.Opening.{opened}
 use Rattle.sheet.specs.Views.{contentsOf}
 use Rattle.sheet.proofs.opening.open_sheet.Needs as need
 

@@ -2,8 +2,9 @@ use mathlib.Core.Path.{_≡_, sym, ap, _∙_}
 use Prim.Native.Nat.{_+_, min}
 use native.Mathlib.Omega.{arith}
 use lib.ListN.{getD, length}
-use Rattle.sheet.specs.Views.{bytesOf, textAt}
-use Rattle.sheet.proofs.Naming.{clipped}
+use Rattle.reading.specs.Rows.{textAt}
+use Rattle.sheet.specs.Views.{bytesOf}
+use Rattle.reading.proofs.Naming.{clipped}
 use Rattle.sheet.proofs.view.Sheet.name.Needs as need
 
 pub returns : need.returns

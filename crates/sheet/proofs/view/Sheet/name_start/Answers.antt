@@ -2,8 +2,9 @@ use mathlib.Core.Path.{_≡_, sym, ap, _∙_}
 use Prim.Native.Nat.{_+_}
 use native.Mathlib.Omega.{arith}
 use lib.ListN.{getD}
-use Rattle.sheet.specs.Views.{bytesOf, nextName, nameStart}
-use Rattle.sheet.proofs.Naming.{nameStart-none, nameStart-more}
+use Rattle.reading.specs.Rows.{nextName, nameStart}
+use Rattle.sheet.specs.Views.{bytesOf}
+use Rattle.reading.proofs.Naming.{nameStart-none, nameStart-more}
 use Rattle.sheet.proofs.view.Sheet.name_start.Needs as need
 
 pub loop-i-holds : need.loop-i-holds

@@ -1,6 +1,7 @@
 use mathlib.Core.Path.{_≡_}
 use Prim.Native.Nat.{_+_, _*_, _≤_}
-use Rattle.sheet.specs.Views.{bytesOf, nameStart}
+use Rattle.reading.specs.Rows.{nameStart}
+use Rattle.sheet.specs.Views.{bytesOf}
 use Rattle.sheet.proofs.view.Sheet.name_start.Given as given
 
 abbrev pub Inv-loop-i : given.InvT-loop-i

@@ -4,8 +4,9 @@ use mathlib.Core.List.{List, []}
 use native.Mathlib.Omega.{arith}
 use denote.Ref.{now}
 use Rattle.std.specs.declared.option.Option.the-variants.{Some}
-use Rattle.sheet.specs.Views.{bytesOf, nameStart, textAt, namesOf, openedOf}
-use Rattle.sheet.proofs.Naming.{nth-first, nth-first-past}
+use Rattle.reading.specs.Rows.{nameStart, textAt}
+use Rattle.sheet.specs.Views.{bytesOf, namesOf, openedOf}
+use Rattle.reading.proofs.Naming.{nth-first, nth-first-past}
 use Rattle.sheet.proofs.view.Sheet.process_name.Needs as need
 
 pub returns-then-p-from : need.returns-then-p-from

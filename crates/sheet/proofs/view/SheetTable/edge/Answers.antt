@@ -1,11 +1,11 @@
 use mathlib.Core.Path.{sym, ap, _∙_}
 use denote.Ref.{now}
 use native.Mathlib.Omega.{arith}
-use Rattle.sheet.specs.Views.{noEdge}
+use Rattle.reading.specs.Rows.{noEdge}
 use Rattle.std.specs.declared.option.Option.the-variants.{Some}
-use Rattle.sheet.specs.Layout.{edgeFormat}
+use Rattle.reading.specs.Layout.{edgeFormat}
 use Rattle.sheet.specs.Views.{listsOf}
-use Rattle.sheet.proofs.Viewing.{nth-row, nth-row-past}
+use Rattle.reading.proofs.Viewing.{nth-row, nth-row-past}
 use Rattle.sheet.proofs.view.SheetTable.edge.Needs as need
 
 pub returns-then-k-from : need.returns-then-k-from

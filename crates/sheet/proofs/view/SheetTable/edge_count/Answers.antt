@@ -1,9 +1,9 @@
 use mathlib.Core.Path.{sym, _∙_}
 use denote.Ref.{now}
-use Rattle.sheet.specs.Views.{noEdge}
-use Rattle.sheet.specs.Layout.{edgeFormat}
+use Rattle.reading.specs.Rows.{noEdge}
+use Rattle.reading.specs.Layout.{edgeFormat}
 use Rattle.sheet.specs.Views.{listsOf}
-use Rattle.sheet.proofs.Viewing.{length-row}
+use Rattle.reading.proofs.Viewing.{length-row}
 use Rattle.sheet.proofs.view.SheetTable.edge_count.Needs as need
 
 pub returns : need.returns

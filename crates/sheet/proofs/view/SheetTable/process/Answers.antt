@@ -6,8 +6,9 @@ use native.Mathlib.Omega.{arith}
 use lib.ListN.{length, getD, take}
 use Rattle.std.proofs.shelf.Lists.{getD-past}
 use Rattle.std.proofs.shelf.Tests.{lt-ltb, le-ltb}
-use Rattle.sheet.specs.Views.{listsOf, processesAt}
-use Rattle.sheet.proofs.Viewing.{length-processes, getD-processes, read-or}
+use Rattle.reading.specs.Rows.{processesAt}
+use Rattle.sheet.specs.Views.{listsOf}
+use Rattle.reading.proofs.Viewing.{length-processes, getD-processes, read-or}
 use Rattle.sheet.proofs.view.SheetTable.process.Needs as need
 use Rattle.table.specs.Lists.{meant}
 use Rattle.table.specs.declared.record.Process.{Process}

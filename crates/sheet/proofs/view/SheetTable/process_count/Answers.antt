@@ -4,7 +4,7 @@ use denote.Ref.{now}
 use native.Mathlib.Omega.{arith}
 use lib.ListN.{length}
 use Rattle.sheet.specs.Views.{listsOf}
-use Rattle.sheet.proofs.Viewing.{length-processes}
+use Rattle.reading.proofs.Viewing.{length-processes}
 use Rattle.sheet.proofs.view.SheetTable.process_count.Needs as need
 
 pub returns : need.returns

@@ -3,9 +3,9 @@ use denote.Ref.{now}
 use native.Mathlib.Omega.{arith}
 use Rattle.table.specs.Edges.{absent}
 use Rattle.std.specs.declared.option.Option.the-variants.{Some}
-use Rattle.sheet.specs.Layout.{signalFormat}
+use Rattle.reading.specs.Layout.{signalFormat}
 use Rattle.sheet.specs.Views.{listsOf}
-use Rattle.sheet.proofs.Viewing.{nth-row, nth-row-past, read-or}
+use Rattle.reading.proofs.Viewing.{nth-row, nth-row-past, read-or}
 use Rattle.sheet.proofs.view.SheetTable.signal.Needs as need
 
 pub returns-then-s-from : need.returns-then-s-from

@@ -1,9 +1,9 @@
 use mathlib.Core.Path.{sym, _∙_}
 use denote.Ref.{now}
 use Rattle.table.specs.Edges.{absent}
-use Rattle.sheet.specs.Layout.{signalFormat}
+use Rattle.reading.specs.Layout.{signalFormat}
 use Rattle.sheet.specs.Views.{listsOf}
-use Rattle.sheet.proofs.Viewing.{length-row}
+use Rattle.reading.proofs.Viewing.{length-row}
 use Rattle.sheet.proofs.view.SheetTable.signal_count.Needs as need
 
 pub returns : need.returns

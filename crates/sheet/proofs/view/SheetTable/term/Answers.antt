@@ -2,16 +2,16 @@ use mathlib.Core.Path.{sym, ap, subst, _∙_}
 use Prim.Native.Nat.{_≤_}
 use denote.Ref.{now}
 use native.Mathlib.Omega.{arith}
-use Rattle.sheet.specs.Views.{noTerm}
+use Rattle.reading.specs.Rows.{noTerm}
 use Rattle.std.specs.Results.{valueOr}
 use Rattle.std.specs.Vec.{made}
 use Rattle.std.specs.declared.option.Option.the-variants.{Some}
 use Rattle.std.specs.declared.result.Result.{Result}
 use Rattle.std.specs.declared.result.Result.the-variants.{Ok, Err}
-use Rattle.sheet.specs.declared.fault.SheetFault.{SheetFault}
-use Rattle.sheet.specs.Layout.{termFormat}
+use Rattle.reading.specs.declared.fault.SheetFault.{SheetFault}
+use Rattle.reading.specs.Layout.{termFormat}
 use Rattle.sheet.specs.Views.{listsOf}
-use Rattle.sheet.proofs.Viewing.{nth-row, nth-row-past, read-or}
+use Rattle.reading.proofs.Viewing.{nth-row, nth-row-past, read-or}
 use Rattle.table.specs.declared.record.Term.{Term}
 use Rattle.sheet.proofs.view.SheetTable.term.Needs as need
 

@@ -1,9 +1,9 @@
 use mathlib.Core.Path.{sym, _∙_}
 use denote.Ref.{now}
-use Rattle.sheet.specs.Views.{noTerm}
-use Rattle.sheet.specs.Layout.{termFormat}
+use Rattle.reading.specs.Rows.{noTerm}
+use Rattle.reading.specs.Layout.{termFormat}
 use Rattle.sheet.specs.Views.{listsOf}
-use Rattle.sheet.proofs.Viewing.{length-row}
+use Rattle.reading.proofs.Viewing.{length-row}
 use Rattle.sheet.proofs.view.SheetTable.term_count.Needs as need
 
 pub returns : need.returns

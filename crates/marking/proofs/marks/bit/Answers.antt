@@ -1,5 +1,0 @@
-use Rattle.marking.proofs.Bitwise.{bit-test}
-use Rattle.marking.proofs.marks.bit.Needs as need
-
-pub returns : need.returns
-returns c = record { value = bit-test (c .args .word) (c .args .number) }

@@ -1,0 +1,4 @@
+pub mod Bitwise
+pub mod Counting
+pub mod Good
+pub mod Owning
