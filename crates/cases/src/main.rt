@@ -1,5 +1,7 @@
 //! Lists the marks of many small sheets, good and damaged, and of the largest; what it writes is compared with what is expected.
 //! A line of the file `cases.txt` is a name, a colon, and the bytes of a sheet in hexadecimal.
+#![tactic(auto)]
+
 use listing::list;
 use std::alloc::{AllocError, Global};
 use std::fs;

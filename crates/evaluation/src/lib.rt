@@ -1,4 +1,6 @@
 //! The value of an expression, and whether a guard is true.
+#![tactic(auto)]
+
 mod stack;
 mod value;
 

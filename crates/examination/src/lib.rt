@@ -1,4 +1,6 @@
 //! The examination of a table: its limits, its edges one by one, and its locations.
+#![tactic(auto)]
+
 ghost use Rattle.std.specs.Prelude.{◌≡◌};
 ghost use Rattle.std.specs.List.{slice_get};
 ghost use Rattle.table.specs.Examination.{answer_at, edge_refused, edges_refused, examined};

@@ -1,4 +1,6 @@
 //! The listing of the marks of a sheet, as text for people.
+#![tactic(auto)]
+
 ghost use Rattle.std.specs.Prelude.{◌≡◌, IfOk, string_bytes};
 ghost use Rattle.std.specs.Result.{result_err};
 ghost use Rattle.listing.specs.Listing.{Listed, Judged, refused_text, refused_by};

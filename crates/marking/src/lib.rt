@@ -1,4 +1,6 @@
 //! The least marks of a table: which variables and timers can hold what came from outside, at which locations.
+#![tactic(auto)]
+
 ghost use Rattle.std.specs.Prelude.{◌≡◌, IfOk};
 ghost use Rattle.table.specs.Examination.{examined};
 ghost use Rattle.refusal.specs.Refusals.{outcome, table_refusal};

@@ -1,5 +1,7 @@
 //! Lists which variables and timers of a part, at which locations, can depend on what came from outside.
 //! The sheet is read from standard input; the listing, or the refusal, goes to standard output.
+#![tactic(auto)]
+
 use listing::list;
 use std::env;
 use std::io::Read;

@@ -1,3 +1,5 @@
 //! What is refused, by number, layer and place, and how it is written.
+#![tactic(auto)]
+
 pub mod fault;
 pub mod report;

@@ -1,4 +1,6 @@
 //! The first-in-first-out queue, over places that the caller lends to each call.
+#![tactic(auto)]
+
 ghost use Rattle.std.specs.Prelude.{◌≡◌, ◌+◌, ◌-◌, ◌&&◌, [], ◌∷◌, ◌++◌, length, drop, is_some, if◌then◌else◌, MatchOption, ◌==◌, nat_lt, slice_set};
 ghost use Rattle.std.specs.List.{slice_get};
 ghost use Rattle.ring.specs.Queue.{fits, fresh, held, longer, shorter, place};

@@ -1,4 +1,6 @@
 //! Tables of SDL processes: their plain records, the questions by which every table is read, and what makes one good.
+#![tactic(auto)]
+
 pub mod expression;
 pub mod judgement;
 pub mod limits;

@@ -22,9 +22,9 @@ returns-in-Variable c =
     let r = simp to_z-of_z at c.numbered.ensures in
     ap (option_map (λ (v : ℤ). v ∷ s)) r ∙ mapped-cond (λ (v : ℤ). v ∷ s) (suits (length vars) Variable z) (numbered vars z) ∙ sym (applied-at vars c.args.term s Variable c.in-Variable.ensures)
 
-pub returns-in-default : goal.returns-in-default
-returns-in-default c =
+pub returns-in_default : goal.returns-in_default
+returns-in_default c =
     let s = shown c.args.stack.now.items c.args.stack.now.depth in
     let f : SFits w16 c.args.term.argument = search rules in
     let r = simp to_z-of_z at c.operate.ensures in
-    r ∙ sym (applied-operates c.args.variables.now c.args.term s c.does.result c.does.ensures c.in-default.not-Number c.in-default.not-Variable)
+    r ∙ sym (applied-operates c.args.variables.now c.args.term s c.does.result c.does.ensures c.in_default.not-Number c.in_default.not-Variable)

@@ -16,7 +16,7 @@ returns-in-Some-find-location g c =
     let T = g.T.Table.lists c.args.table.now in
     let m = mixed-found T c.requires c.leaving-acting.result.flags c.leaving-waiting.result.flags c.leaving-acting.ensures c.leaving-waiting.ensures in
     let s = stuck-found T c.requires c.leaving-acting.result.flags c.leaving-free.result.flags c.leaving-acting.ensures c.leaving-free.ensures in
-    rw (← m, ← c.in-default.ensures, ← s, ← c.in-Some-find-location.ensures)
+    rw (← m, ← c.in_default.ensures, ← s, ← c.in-Some-find-location.ensures)
 
 pub returns : goal.returns
 unfolding locations_refused
@@ -24,4 +24,4 @@ returns g c =
     let T = g.T.Table.lists c.args.table.now in
     let m = mixed-found T c.requires c.leaving-acting.result.flags c.leaving-waiting.result.flags c.leaving-acting.ensures c.leaving-waiting.ensures in
     let s = stuck-found T c.requires c.leaving-acting.result.flags c.leaving-free.result.flags c.leaving-acting.ensures c.leaving-free.ensures in
-    rw (← m, ← c.in-default.ensures, ← s, ← c.in-default-find-location.ensures)
+    rw (← m, ← c.in_default.ensures, ← s, ← c.in_default-find-location.ensures)

@@ -15,10 +15,10 @@ pub returns-in-Internal : goal.returns-in-Internal
 unfolding fed
 returns-in-Internal g c = search (rules, nat_tests)
 
-pub returns-in-default-class : goal.returns-in-default-class
+pub returns-in_default-class : goal.returns-in_default-class
 unfolding fed
-returns-in-default-class g c = search (rules, nat_tests)
+returns-in_default-class g c = search (rules, nat_tests)
 
-pub returns-in-default : goal.returns-in-default
+pub returns-in_default : goal.returns-in_default
 unfolding fed
-returns-in-default g c = search (rules, nat_tests)
+returns-in_default g c = search (rules, nat_tests)

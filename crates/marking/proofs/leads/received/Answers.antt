@@ -11,6 +11,6 @@ pub returns-in-Input-2 : goal.returns-in-Input-2
 unfolding received
 returns-in-Input-2 c = search (rules, nat_tests)
 
-pub returns-in-default : goal.returns-in-default
+pub returns-in_default : goal.returns-in_default
 unfolding received
-returns-in-default c = search (rules, nat_tests)
+returns-in_default c = search (rules, nat_tests)

@@ -19,6 +19,6 @@ pub returns-in-Set : goal.returns-in-Set
 unfolding touches
 returns-in-Set c = search (rules, nat_tests)
 
-pub returns-in-default : goal.returns-in-default
+pub returns-in_default : goal.returns-in_default
 unfolding touches
-returns-in-default c = search (rules, nat_tests)
+returns-in_default c = search (rules, nat_tests)

@@ -29,7 +29,7 @@ loop-node-preserved g c =
 pub returns : goal.returns
 returns g c =
     let T = g.T.Table.lists c.args.table.now in
-    let w = c.in-default.ensures in
+    let w = c.in_default.ensures in
     let f = search-ends (λ i. flat_map (leads T i) T.edges) (flat_map (seeds T) T.edges) (state c.loop-node.search) c.loop-node.invariant w.cases in
     let e = c.found.ensures.value ∙ ap (take 128) w.same in
     let G = good T c.requires in

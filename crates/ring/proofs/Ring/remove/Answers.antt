@@ -4,9 +4,9 @@ use Rattle.ring.specs.Queue.{fits, shorter}
 use Rattle.ring.proofs.Held.{held-taken, held_none}
 use Rattle.ring.proofs.Ring.remove.Goals as goal
 
-pub returns-in-default : goal.returns-in-default
-returns-in-default g c =
-    let t = c.in-default.ensures in
+pub returns-in_default : goal.returns-in_default
+returns-in_default g c =
+    let t = c.in_default.ensures in
     let h = held_none c.args.self.now c.args.places.now t.test in
     let d = ap (drop 1) h in
     search rules

@@ -6,7 +6,7 @@ use Rattle.survey.specs.Surveys.{noted_spots, noted_chaos, Surveyed}
 use Rattle.survey.specs.declared.spots.Survey.{Survey}
 use Rattle.survey.proofs.Noting.{surveyed-more, surveyed-none, surveyed-blank}
 use Rattle.survey.proofs.edges.survey.Goals as goal
-use Rattle.survey.proofs.edges.survey.Goals.{in-Some, in-default}
+use Rattle.survey.proofs.edges.survey.Goals.{in-Some, in_default}
 
 pub loop-k-init : goal.loop-k-init
 loop-k-init g c = surveyed-blank (g.T.Table.lists c.args.table.now) (marking c.args.marks.now) _ _ c.blank-seen.ensures.spots c.blank-seen.ensures.chaotic
@@ -23,8 +23,8 @@ loop-k-preserved g c =
           let cs : c.match-edge.seen.chaotic ≡ noted_chaos (invites T e) e was.chaotic = ap (λ (x : Survey). x.chaotic) w.seen-is ∙ w.note-chaos.ensures.chaotic ∙ ap (noted_chaos w.is-inviting.result e) w.note.ensures.same ∙ ap (λ b. noted_chaos b e was.chaotic) w.is-inviting.ensures in
           let more = surveyed-more T M T.edges c.loop-k.k e was.spots was.chaotic was.size was.eight (sym w.in-Some.ensures) c.loop-k.invariant in
           subst (λ xs. Surveyed T M (take (c.loop-k.k + 1) T.edges) xs c.match-edge.seen.chaotic) (sym ss) (subst (λ xs. Surveyed T M (take (c.loop-k.k + 1) T.edges) (noted_spots (marked_guard T M e) e was.spots) xs) (sym cs) more)
-      | in-default w ↦
-          rw w.seen-is (surveyed-none T M T.edges c.loop-k.k was.spots was.chaotic (sym w.in-default.ensures) c.loop-k.invariant)
+      | in_default w ↦
+          rw w.seen-is (surveyed-none T M T.edges c.loop-k.k was.spots was.chaotic (sym w.in_default.ensures) c.loop-k.invariant)
     ]
 
 pub returns : goal.returns

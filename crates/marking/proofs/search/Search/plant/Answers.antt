@@ -8,6 +8,6 @@ pub returns-in-Inbound : goal.returns-in-Inbound
 unfolding seeds
 returns-in-Inbound g c = search (rules, nat_tests, pushes-none, pushes-one, pushes-append)
 
-pub returns-in-default : goal.returns-in-default
+pub returns-in_default : goal.returns-in_default
 unfolding seeds
-returns-in-default g c = search (rules, nat_tests, pushes-none, pushes-one, pushes-append)
+returns-in_default g c = search (rules, nat_tests, pushes-none, pushes-one, pushes-append)

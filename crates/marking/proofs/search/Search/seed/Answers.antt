@@ -4,7 +4,7 @@ use Rattle.marking.specs.Queue.{state}
 use Rattle.marking.proofs.Pushing.{pushes-none}
 use Rattle.marking.proofs.Scanning.{scan-some, scan-past, scan-all}
 use Rattle.marking.proofs.search.Search.seed.Goals as goal
-use Rattle.marking.proofs.search.Search.seed.Goals.{in-Some, in-default}
+use Rattle.marking.proofs.search.Search.seed.Goals.{in-Some, in_default}
 
 pub loop-k-init : goal.loop-k-init
 loop-k-init g c = sym (pushes-none (state c.args.self.now))
@@ -17,7 +17,7 @@ loop-k-preserved g c =
     let t = state c.match-edge.self in
     elim c.match-edge.branch [
       | in-Some w ↦ scan-some (seeds T) T.edges c.loop-k.k s r t w.in-Some.edge c.loop-k.invariant (cc) (ap state w.self-is ∙ w.plant.ensures.after)
-      | in-default w ↦ scan-past (seeds T) T.edges c.loop-k.k s r t c.loop-k.invariant (cc) (ap state w.self-is)
+      | in_default w ↦ scan-past (seeds T) T.edges c.loop-k.k s r t c.loop-k.invariant (cc) (ap state w.self-is)
     ]
 
 pub returns : goal.returns
