@@ -13,7 +13,7 @@ use table::questions::Table;
 
 /// The table closed by these marks, or as it is where the test by them refuses.
 pub fn close_by<T: Table>(table: T, marks: &Marks) -> Layer<T>
-    ensures meaning { layered result.plan (lists result.below) ≡ closed_by (lists table) (marking marks.now) }
+    ensures meaning { layered result.plan (T.lists result.below) ≡ closed_by (T.lists table) (marking marks.now) }
     ensures below { result.below ≡ table }
 {
     let mut plan = Plan::of(&table, marks);
@@ -23,7 +23,7 @@ pub fn close_by<T: Table>(table: T, marks: &Marks) -> Layer<T>
 
 /// The table closed by its least marks, or as it is where the test refuses.
 pub fn close<T: Table>(table: T) -> Layer<T>
-    ensures closes { Closes (lists table) (layered result.plan (lists result.below)) }
+    ensures closes { Closes (T.lists table) (layered result.plan (T.lists result.below)) }
     ensures below { result.below ≡ table }
 {
     match mark(&table) {
@@ -34,7 +34,7 @@ pub fn close<T: Table>(table: T) -> Layer<T>
 
 /// The table as it is.
 pub fn unclosed<T: Table>(table: T) -> Layer<T>
-    ensures meaning { layered result.plan (lists result.below) ≡ lists table }
+    ensures meaning { layered result.plan (T.lists result.below) ≡ T.lists table }
     ensures below { result.below ≡ table }
 {
     let plan = Plan::of(&table, &Marks::of([0; 128]));

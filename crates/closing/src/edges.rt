@@ -55,7 +55,7 @@ impl Plan {
 
     /// The edge with its move changed, its guard as it was.
     fn change<T: Table>(&self, table: &T, edge: &Edge) -> Edge
-        ensures { result ≡ changed (fate_in self.now (lists table.now) edge.now) false (timers_in self.now edge.now.process) edge.now }
+        ensures { result ≡ changed (fate_in self.now (T.lists table.now) edge.now) false (timers_in self.now edge.now.process) edge.now }
     {
         match edge.does() {
             Kind::Input => match class_of(table, edge.first) {
@@ -75,7 +75,7 @@ impl Plan {
 
     /// Whether the edge loses its guard.
     fn frees<T: Table>(&self, table: &T, edge: &Edge) -> bool
-        ensures { result ≡ freed_in self.now (lists table.now) edge.now }
+        ensures { result ≡ freed_in self.now (T.lists table.now) edge.now }
     {
         match edge.guarded() {
             Mode::Expression => is_marked(table, &self.marks, edge, edge.guard),
@@ -89,7 +89,7 @@ impl Plan {
 
     /// What the edge becomes.
     pub(crate) fn close_edge<T: Table>(&self, table: &T, edge: &Edge) -> Edge
-        ensures { result ≡ edge_in self.now (lists table.now) edge.now }
+        ensures { result ≡ edge_in self.now (T.lists table.now) edge.now }
     {
         let changed = self.change(table, edge);
         if self.frees(table, edge) {

@@ -80,7 +80,7 @@ impl Plan {
 impl<T: Table> Layer<T> {
     /// Whether the layer closes, which it does only for tables of at most 2,048 edges.
     fn closes(&self) -> bool
-        ensures { result ≡ (self.now.plan.on && nat_le (length (lists self.now.below).edges) 2048) }
+        ensures { result ≡ (self.now.plan.on && nat_le (length (T.lists self.now.below).edges) 2048) }
     {
         self.plan.on && self.below.edge_count() <= limits::EDGES
     }

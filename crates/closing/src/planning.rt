@@ -14,7 +14,7 @@ use table::record::Process;
 
 /// How many timers each of the first eight processes has.
 fn timer_counts<T: Table>(table: &T) -> [u8; 8]
-    ensures { (p : ℕ) → p < 8 → slice_index result p ≡ (process_at (lists table.now) p).timers }
+    ensures { (p : ℕ) → p < 8 → slice_index result p ≡ (process_at (T.lists table.now) p).timers }
 {
     let mut counts = [0; 8];
     for p in 0..limits::PROCESSES {
@@ -28,7 +28,7 @@ fn timer_counts<T: Table>(table: &T) -> [u8; 8]
 impl Plan {
     /// The plan for closing the table by these marks. It is off.
     pub(crate) fn of<T: Table>(table: &T, marks: &Marks) -> Self
-        ensures planned { Planned (lists table.now) (marking marks.now) result }
+        ensures planned { Planned (T.lists table.now) (marking marks.now) result }
         ensures off { result.on ≡ false }
     {
         let survey = survey(table, marks);

@@ -15,8 +15,8 @@ use table::questions::Table;
 impl Plan {
     /// Whether there is room for the chaos timers and the added edges; answers how many edges there then are.
     pub(crate) fn check_room<T: Table>(&self, table: &T) -> Result<usize, TestFault>
-        requires { (self.now.loops.wanted ≤ 2176) × (length (lists table.now).edges ≤ 2048) }
-        ensures { testing result ≡ answer (room_refused self.now (lists table.now)) (count_in self.now (lists table.now)) }
+        requires { (self.now.loops.wanted ≤ 2176) × (length (T.lists table.now).edges ≤ 2048) }
+        ensures { testing result ≡ answer (room_refused self.now (T.lists table.now)) (count_in self.now (T.lists table.now)) }
     {
         for p in 0..table.process_count() {
             if self.survey.is_chaotic(p) && self.timers_of(p) >= limits::TIMERS {
@@ -33,7 +33,7 @@ impl Plan {
     /// Whether the table passes the test, by this plan.
     pub(crate) fn passes<T: Table>(&self, table: &T) -> bool
         requires { self.now.loops.wanted ≤ 2176 }
-        ensures { result ≡ not (is_some (test_refused_in self.now (lists table.now))) }
+        ensures { result ≡ not (is_some (test_refused_in self.now (T.lists table.now))) }
     {
         match examine(table) {
             Ok(()) => self.check_room(table).is_ok(),
@@ -44,7 +44,7 @@ impl Plan {
 
 /// Whether the table can be closed; answers how many edges the closed table has.
 pub fn test<T: Table>(table: &T) -> Result<usize, TestFault>
-    ensures { Tests (lists table.now) (testing result) }
+    ensures { Tests (T.lists table.now) (testing result) }
 {
     let marks = mark(table)?;
     Plan::of(table, &marks).check_room(table)

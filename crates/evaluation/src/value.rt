@@ -11,8 +11,8 @@ use table::record::{Operation, Span, Term};
 
 /// The value of the expression; none where it is not well formed.
 pub fn evaluate<T: Table>(table: &T, span: Span, variables: &[i16]) -> Option<i16>
-    ensures value { result ≡ value_of variables.now (lists table.now).terms span }
-    ensures test { is_some result ≡ sound (length variables.now) (lists table.now).terms span }
+    ensures value { result ≡ value_of variables.now (T.lists table.now).terms span }
+    ensures test { is_some result ≡ sound (length variables.now) (T.lists table.now).terms span }
 {
     if span.count == 0 || span.count > limits::EXPRESSION {
         return None;
@@ -26,7 +26,7 @@ pub fn evaluate<T: Table>(table: &T, span: Span, variables: &[i16]) -> Option<i1
 
 /// Whether the guard is true: it has a value, and that is not 0.
 pub fn is_true<T: Table>(table: &T, guard: Span, variables: &[i16]) -> bool
-    ensures { result ≡ holds variables.now (lists table.now).terms guard }
+    ensures { result ≡ holds variables.now (T.lists table.now).terms guard }
 {
     match evaluate(table, guard, variables) {
         None => false,
@@ -37,7 +37,7 @@ pub fn is_true<T: Table>(table: &T, guard: Span, variables: &[i16]) -> bool
 /// The one value that the terms leave.
 fn run<T: Table>(table: &T, span: Span, variables: &[i16]) -> Option<i16>
     requires { span.count ≤ 16 }
-    ensures { result ≡ evaluated variables.now (part (lists table.now).terms span) [] }
+    ensures { result ≡ evaluated variables.now (part (T.lists table.now).terms span) [] }
 {
     let start = usize::from(span.start);
     let mut stack = Stack::empty();

@@ -10,7 +10,7 @@ use table::questions::Table;
 use table::record::Process;
 
 fn check_lists<T: Table>(table: &T) -> Result<(), TableFault>
-    ensures { outcome table_refusal result ≡ lists_refused (lists table.now) }
+    ensures { outcome table_refusal result ≡ lists_refused (T.lists table.now) }
 {
     if table.process_count() > limits::PROCESSES
         || table.signal_count() > limits::SIGNALS
@@ -23,7 +23,7 @@ fn check_lists<T: Table>(table: &T) -> Result<(), TableFault>
 }
 
 fn check_process<T: Table>(table: &T, p: usize) -> Result<(), TableFault>
-    ensures { outcome table_refusal result ≡ answer_at (limited bad_process) p (slice_get (lists table.now).processes p) }
+    ensures { outcome table_refusal result ≡ answer_at (limited bad_process) p (slice_get (T.lists table.now).processes p) }
 {
     let mut process = Process::BLANK;
     if table.process(p, &mut process) && process.is_bad() {
@@ -33,7 +33,7 @@ fn check_process<T: Table>(table: &T, p: usize) -> Result<(), TableFault>
 }
 
 fn check_processes<T: Table>(table: &T) -> Result<(), TableFault>
-    ensures { outcome table_refusal result ≡ processes_refused (lists table.now) }
+    ensures { outcome table_refusal result ≡ processes_refused (T.lists table.now) }
 {
     for p in 0..table.process_count() {
         check_process(table, p)?;
@@ -42,7 +42,7 @@ fn check_processes<T: Table>(table: &T) -> Result<(), TableFault>
 }
 
 fn check_signal<T: Table>(table: &T, s: usize) -> Result<(), TableFault>
-    ensures { outcome table_refusal result ≡ answer_at (limited (bad_signal (length (lists table.now).processes))) s (slice_get (lists table.now).signals s) }
+    ensures { outcome table_refusal result ≡ answer_at (limited (bad_signal (length (T.lists table.now).processes))) s (slice_get (T.lists table.now).signals s) }
 {
     match table.signal(s) {
         Some(signal) if signal.is_bad(table.process_count()) => Err(TableFault::Limit(s)),
@@ -51,7 +51,7 @@ fn check_signal<T: Table>(table: &T, s: usize) -> Result<(), TableFault>
 }
 
 fn check_signals<T: Table>(table: &T) -> Result<(), TableFault>
-    ensures { outcome table_refusal result ≡ signals_refused (lists table.now) }
+    ensures { outcome table_refusal result ≡ signals_refused (T.lists table.now) }
 {
     for s in 0..table.signal_count() {
         check_signal(table, s)?;
@@ -61,7 +61,7 @@ fn check_signals<T: Table>(table: &T) -> Result<(), TableFault>
 
 /// Whether every list, process and signal is within its limits.
 pub fn check_limits<T: Table>(table: &T) -> Result<(), TableFault>
-    ensures { outcome table_refusal result ≡ limits_refused (lists table.now) }
+    ensures { outcome table_refusal result ≡ limits_refused (T.lists table.now) }
 {
     check_lists(table)?;
     check_processes(table)?;

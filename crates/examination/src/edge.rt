@@ -13,7 +13,7 @@ use table::record::{Class, Edge, Kind, Mode, Process, Signal};
 
 /// Whether the edge may stand in the table, and if not, what is wrong with it first.
 pub fn check<T: Table>(table: &T, edge: &Edge) -> Result<(), EdgeFault>
-    ensures { outcome edge_number result ≡ edge_fault (lists table.now) edge.now }
+    ensures { outcome edge_number result ≡ edge_fault (T.lists table.now) edge.now }
 {
     let mut process = Process::BLANK;
     table.process(usize::from(edge.process), &mut process);
@@ -107,7 +107,7 @@ fn has_bad_value(edge: &Edge) -> bool
 
 /// Whether the guard or the value is no expression of a process with so many variables.
 fn is_untrue<T: Table>(table: &T, edge: &Edge, variables: u8) -> bool
-    ensures { result ≡ untrue_in variables (lists table.now).terms edge.now }
+    ensures { result ≡ untrue_in variables (T.lists table.now).terms edge.now }
 {
     if edge.mode == 1 && !is_sound(table, edge.guard, variables) {
         return true;

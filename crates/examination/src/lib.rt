@@ -18,7 +18,7 @@ mod location;
 
 /// Whether the table is good, and if not, what is wrong with it first.
 pub fn examine<T: Table>(table: &T) -> Result<(), TableFault>
-    ensures { outcome table_refusal result ≡ examined (lists table.now) }
+    ensures { outcome table_refusal result ≡ examined (T.lists table.now) }
 {
     check_limits(table)?;
     check_edges(table)?;
@@ -26,7 +26,7 @@ pub fn examine<T: Table>(table: &T) -> Result<(), TableFault>
 }
 
 fn check_edge<T: Table>(table: &T, k: usize) -> Result<(), TableFault>
-    ensures { outcome table_refusal result ≡ answer_at (edge_refused (lists table.now)) k (slice_get (lists table.now).edges k) }
+    ensures { outcome table_refusal result ≡ answer_at (edge_refused (T.lists table.now)) k (slice_get (T.lists table.now).edges k) }
 {
     let Some(e) = table.edge(k) else {
         return Ok(());
@@ -38,7 +38,7 @@ fn check_edge<T: Table>(table: &T, k: usize) -> Result<(), TableFault>
 }
 
 fn check_edges<T: Table>(table: &T) -> Result<(), TableFault>
-    ensures { outcome table_refusal result ≡ edges_refused (lists table.now) }
+    ensures { outcome table_refusal result ≡ edges_refused (T.lists table.now) }
 {
     for k in 0..table.edge_count() {
         check_edge(table, k)?;

@@ -68,7 +68,7 @@ impl Locations {
 
 /// The locations that some edge of the sort leaves.
 pub fn leaving<T: Table>(table: &T, sort: Sort) -> Locations
-    ensures { (p l : ℕ) → p < 8 → l < 16 → has_at result.flags p l ≡ any (leaves p l (passes sort)) (lists table.now).edges }
+    ensures { (p l : ℕ) → p < 8 → l < 16 → has_at result.flags p l ≡ any (leaves p l (passes sort)) (T.lists table.now).edges }
 {
     let mut found = Locations::none();
     for k in 0..table.edge_count() {
@@ -109,7 +109,7 @@ fn find_of<T: Table>(
     other: &Locations,
     wanted: bool,
 ) -> Option<(usize, usize)>
-    ensures { result ≡ answer_at (location_in (flagged one.now.flags other.now.flags wanted)) p (slice_get (lists table.now).processes p) }
+    ensures { result ≡ answer_at (location_in (flagged one.now.flags other.now.flags wanted)) p (slice_get (T.lists table.now).processes p) }
 {
     let mut process = Process::BLANK;
     if !table.process(p, &mut process) {
@@ -128,7 +128,7 @@ fn find_location<T: Table>(
     other: &Locations,
     wanted: bool,
 ) -> Option<(usize, usize)>
-    ensures { result ≡ first_location (flagged one.now.flags other.now.flags wanted) (lists table.now).processes }
+    ensures { result ≡ first_location (flagged one.now.flags other.now.flags wanted) (T.lists table.now).processes }
 {
     for p in 0..table.process_count() {
         match find_of(table, p, one, other, wanted) {
@@ -140,8 +140,8 @@ fn find_location<T: Table>(
 }
 
 pub fn check_locations<T: Table>(table: &T) -> Result<(), TableFault>
-    requires { limits_refused (lists table.now) ≡ None }
-    ensures { outcome table_refusal result ≡ locations_refused (lists table.now) }
+    requires { limits_refused (T.lists table.now) ≡ None }
+    ensures { outcome table_refusal result ≡ locations_refused (T.lists table.now) }
 {
     let acting = leaving(table, Sort::Acting);
     let waiting = leaving(table, Sort::Waiting);

@@ -40,7 +40,7 @@ impl Sort {
 
 /// Every marked instance of the table on a line of its own, then how many of how many are marked.
 pub fn describe<T: Table>(heap: Global, table: &T, marks: &Marks) -> Result<String, AllocError>
-    ensures { IfOk result (λ s. string_bytes s ≡ listing_text (lists table.now) (marking marks.now)) }
+    ensures { IfOk result (λ s. string_bytes s ≡ listing_text (T.lists table.now) (marking marks.now)) }
 {
     let mut text = String::new(heap);
     for p in 0..table.process_count() {
@@ -57,7 +57,7 @@ fn push_count<T: Table>(
     table: &T,
     marks: &Marks,
 ) -> Result<(), AllocError>
-    ensures { OnOk result (string_bytes text.new ≡ string_bytes text.old ++ count_text (lists table.now) (marking marks.now)) }
+    ensures { OnOk result (string_bytes text.new ≡ string_bytes text.old ++ count_text (T.lists table.now) (marking marks.now)) }
 {
     let marked = marks.total();
     let all = instances(table);
@@ -72,7 +72,7 @@ fn push_process<T: Table>(
     marks: &Marks,
     p: usize,
 ) -> Result<(), AllocError>
-    ensures { OnOk result (string_bytes text.new ≡ string_bytes text.old ++ table_text (lists table.now) (marking marks.now) p) }
+    ensures { OnOk result (string_bytes text.new ≡ string_bytes text.old ++ table_text (T.lists table.now) (marking marks.now) p) }
 {
     let mut process = Process::BLANK;
     table.process(p, &mut process);

@@ -125,7 +125,7 @@ impl Loops {
 
     /// All that is added to the table, by what was seen of it.
     pub fn of<T: Table>(table: &T, marks: &Marks, survey: &Survey) -> Self
-        ensures holds { Holds result.items result.wanted (added_by (marking marks.now) survey.now.spots survey.now.chaotic (lists table.now).processes (min (length (lists table.now).processes) 8)) }
+        ensures holds { Holds result.items result.wanted (added_by (marking marks.now) survey.now.spots survey.now.chaotic (T.lists table.now).processes (min (length (T.lists table.now).processes) 8)) }
         ensures bound { result.wanted ≤ 2176 }
     {
         let mut loops = Loops::none();

@@ -29,7 +29,7 @@ impl Search {
 
     /// A value that mentions the variable is marked.
     fn feed<T: Table>(&mut self, table: &T, edge: &Edge, bit: u8)
-        ensures after { state self.new ≡ pushes (state self.old) (fed_by (lists table.now) bit edge.now) }
+        ensures after { state self.new ≡ pushes (state self.old) (fed_by (T.lists table.now) bit edge.now) }
     {
         if bit < 8 && mentions(table, edge.value, bit) {
             self.push_some(fed(table, edge));
@@ -37,7 +37,7 @@ impl Search {
     }
 
     fn follow_instance<T: Table>(&mut self, table: &T, edge: &Edge, node: usize)
-        ensures after { state self.new ≡ pushes (state self.old) (from_instance (lists table.now) node edge.now) }
+        ensures after { state self.new ≡ pushes (state self.old) (from_instance (T.lists table.now) node edge.now) }
     {
         if node / 16 == 16 * usize::from(edge.process) + usize::from(edge.from) {
             let bit = (node % 16) as u8;
@@ -56,7 +56,7 @@ impl Search {
 
     /// Marks what the edge leads to from a marked node.
     pub fn follow<T: Table>(&mut self, table: &T, edge: &Edge, node: usize)
-        ensures after { state self.new ≡ pushes (state self.old) (leads (lists table.now) node edge.now) }
+        ensures after { state self.new ≡ pushes (state self.old) (leads (T.lists table.now) node edge.now) }
     {
         if node < SIGNALS {
             self.follow_instance(table, edge, node);
@@ -67,7 +67,7 @@ impl Search {
 
     /// Marks the variable of an input of an inbound signal.
     pub fn plant<T: Table>(&mut self, table: &T, edge: &Edge)
-        ensures after { state self.new ≡ pushes (state self.old) (seeds (lists table.now) edge.now) }
+        ensures after { state self.new ≡ pushes (state self.old) (seeds (T.lists table.now) edge.now) }
     {
         if let Class::Inbound = class(table, edge.first) {
             self.push_some(received(edge));

@@ -43,7 +43,7 @@ pub fn touches(edge: &Edge, bit: u8) -> bool
 
 /// What a marked value of the edge marks: a variable, a timer or an internal signal.
 pub fn fed<T: Table>(table: &T, edge: &Edge) -> Option<usize>
-    ensures value { result ≡ fed (lists table.now) edge.now }
+    ensures value { result ≡ fed (T.lists table.now) edge.now }
 {
     match edge.does() {
         Kind::Assignment => Some(node(edge.process, edge.to, edge.first)),
@@ -58,7 +58,7 @@ pub fn fed<T: Table>(table: &T, edge: &Edge) -> Option<usize>
 
 /// The class of a signal, absent where there is none.
 pub fn class<T: Table>(table: &T, signal: u8) -> Class
-    ensures value { result ≡ class_at (lists table.now) signal }
+    ensures value { result ≡ class_at (T.lists table.now) signal }
 {
     match table.signal(usize::from(signal)) {
         Some(signal) => signal.is(),

@@ -22,9 +22,9 @@ mod solver;
 
 /// The least marks of a table, which is examined first.
 pub fn mark<T: Table>(table: &T) -> Result<Marks, TableFault>
-    ensures refused { outcome table_refusal result ≡ examined (lists table.now) }
-    ensures least { IfOk result (λ m. Least (lists table.now) (marking m)) }
-    ensures within { IfOk result (λ m. Within (marking m) (own (lists table.now))) }
+    ensures refused { outcome table_refusal result ≡ examined (T.lists table.now) }
+    ensures least { IfOk result (λ m. Least (T.lists table.now) (marking m)) }
+    ensures within { IfOk result (λ m. Within (marking m) (own (T.lists table.now))) }
 {
     examine(table)?;
     Ok(solver::least(table))

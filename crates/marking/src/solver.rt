@@ -14,7 +14,7 @@ use table::questions::Table;
 
 impl Search {
     fn seed<T: Table>(&mut self, table: &T)
-        ensures after { state self.new ≡ pushes (state self.old) (flat_map (seeds (lists table.now)) (lists table.now).edges) }
+        ensures after { state self.new ≡ pushes (state self.old) (flat_map (seeds (T.lists table.now)) (T.lists table.now).edges) }
     {
         for k in 0..table.edge_count() {
             if let Some(edge) = table.edge(k) {
@@ -24,7 +24,7 @@ impl Search {
     }
 
     fn spread<T: Table>(&mut self, table: &T, node: usize)
-        ensures after { state self.new ≡ pushes (state self.old) (flat_map (leads (lists table.now) node) (lists table.now).edges) }
+        ensures after { state self.new ≡ pushes (state self.old) (flat_map (leads (T.lists table.now) node) (T.lists table.now).edges) }
     {
         for k in 0..table.edge_count() {
             if let Some(edge) = table.edge(k) {
@@ -36,9 +36,9 @@ impl Search {
 
 /// The least marks of a table that passes its examination.
 pub fn least<T: Table>(table: &T) -> Marks
-    requires { examined (lists table.now) ≡ None }
-    ensures least { Least (lists table.now) (marking result) }
-    ensures within { Within (marking result) (own (lists table.now)) }
+    requires { examined (T.lists table.now) ≡ None }
+    ensures least { Least (T.lists table.now) (marking result) }
+    ensures within { Within (marking result) (own (T.lists table.now)) }
 {
     let mut search = Search::new();
     search.seed(table);

@@ -9,7 +9,7 @@ use table::record::Process;
 
 /// Of the eight processes that a table may have.
 pub fn instances<T: Table>(table: &T) -> usize
-    ensures value { result ≡ sum_by of_process (take 8 (lists table.now).processes) }
+    ensures value { result ≡ sum_by of_process (take 8 (T.lists table.now).processes) }
 {
     let mut total = 0;
     for p in 0..limits::PROCESSES {

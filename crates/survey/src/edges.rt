@@ -98,7 +98,7 @@ impl Survey {
 
 /// Whether the edge has a guard, and that is marked.
 fn has_marked_guard<T: Table>(table: &T, marks: &Marks, edge: &Edge) -> bool
-    ensures { result ≡ marked_guard (lists table.now) (marking marks.now) edge.now }
+    ensures { result ≡ marked_guard (T.lists table.now) (marking marks.now) edge.now }
 {
     match edge.guarded() {
         Mode::Expression => is_marked(table, marks, edge, edge.guard),
@@ -108,7 +108,7 @@ fn has_marked_guard<T: Table>(table: &T, marks: &Marks, edge: &Edge) -> bool
 
 /// The class of a signal, absent where there is none.
 pub fn class_of<T: Table>(table: &T, signal: u8) -> Class
-    ensures { result ≡ class_at (lists table.now) signal }
+    ensures { result ≡ class_at (T.lists table.now) signal }
 {
     match table.signal(usize::from(signal)) {
         Some(signal) => signal.is(),
@@ -118,7 +118,7 @@ pub fn class_of<T: Table>(table: &T, signal: u8) -> Class
 
 /// Whether the edge is an input of an inbound signal.
 fn is_inviting<T: Table>(table: &T, edge: &Edge) -> bool
-    ensures { result ≡ invites (lists table.now) edge.now }
+    ensures { result ≡ invites (T.lists table.now) edge.now }
 {
     match edge.does() {
         Kind::Input => is_inbound(class_of(table, edge.first)),
@@ -137,7 +137,7 @@ fn is_inbound(class: Class) -> bool
 
 /// What the edges of the table say, under the marks.
 pub fn survey<T: Table>(table: &T, marks: &Marks) -> Survey
-    ensures { Surveyed (lists table.now) (marking marks.now) (lists table.now).edges result.spots result.chaotic }
+    ensures { Surveyed (T.lists table.now) (marking marks.now) (T.lists table.now).edges result.spots result.chaotic }
 {
     let mut seen = Survey::blank();
     for k in 0..table.edge_count() {

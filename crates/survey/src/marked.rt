@@ -23,7 +23,7 @@ fn is_hit(marks: &Marks, edge: &Edge, term: Term) -> bool
 
 /// Whether the edge's expression is marked.
 pub fn is_marked<T: Table>(table: &T, marks: &Marks, edge: &Edge, span: Span) -> bool
-    ensures { result ≡ marked (lists table.now) (marking marks.now) edge.now span }
+    ensures { result ≡ marked (T.lists table.now) (marking marks.now) edge.now span }
 {
     let start = usize::from(span.start);
     for i in start..start + usize::from(span.count) {

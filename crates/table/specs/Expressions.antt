@@ -9,7 +9,7 @@
 --   depth_after n t d  how many values there are after t where d were before; None where t is unfit or lacks operands
 --   formed n ts d     with d values found before, each operation of ts finds its operands and just one value remains
 --   sound n ts s      the span s lies within ts, has 1 to 16 terms, and is well formed in a process of n variables
-use Rattle.std.specs.Prelude.{ℕ, suc, ◌+◌, ◌-◌, Bool, true, false, cond, ◌&&◌, ◌||◌, List, [], ◌∷◌, length, take, drop, ℤ, pos, negsuc, Some, None, Option, ◌==◌, nat_le, nat_lt}
+use Rattle.std.specs.Prelude.{ℕ, ◌+◌, ◌-◌, Bool, true, false, cond, ◌&&◌, ◌||◌, List, [], ◌∷◌, length, take, drop, ℤ, pos, negsuc, Some, None, Option, ◌==◌, nat_le, nat_lt}
 use Rattle.table.specs.Records.{operation_of}
 use Rattle.table.specs.declared.record.Operation.{Operation}
 use Rattle.table.specs.declared.record.Operation.TheVariants.{Number, Variable, Sum, Difference, Equal, Less, Both, Not, Unknown}

@@ -53,7 +53,7 @@ impl Term {
 
 /// Whether the expression reads the variable.
 pub fn mentions<T: Table>(table: &T, span: Span, variable: u8) -> bool
-    ensures { result ≡ mentions (part (lists table.now).terms span) variable }
+    ensures { result ≡ mentions (part (T.lists table.now).terms span) variable }
 {
     let start = usize::from(span.start);
     for i in start..start + usize::from(span.count) {
@@ -71,7 +71,7 @@ pub fn mentions<T: Table>(table: &T, span: Span, variable: u8) -> bool
 
 /// Whether the part of the term list is a well-formed expression of a process with so many variables.
 pub fn is_sound<T: Table>(table: &T, span: Span, variables: u8) -> bool
-    ensures { result ≡ sound variables (lists table.now).terms span }
+    ensures { result ≡ sound variables (T.lists table.now).terms span }
 {
     if span.count == 0 || span.count > limits::EXPRESSION {
         return false;
@@ -83,7 +83,7 @@ pub fn is_sound<T: Table>(table: &T, span: Span, variables: u8) -> bool
 
 /// Whether every operation finds its operands and just one value remains.
 fn is_formed<T: Table>(table: &T, span: Span, variables: u8) -> bool
-    ensures { result ≡ formed variables (part (lists table.now).terms span) 0 }
+    ensures { result ≡ formed variables (part (T.lists table.now).terms span) 0 }
 {
     let start = usize::from(span.start);
     let mut depth = 0;

@@ -5,18 +5,18 @@ use Rattle.refusal.specs.Refusals.{table_refusal}
 use Rattle.examination.proofs.Firsts.{first_found, first-passed, first-end}
 use Rattle.examination.proofs.check_edges.Goals as goal
 
-pub returns-in-err-check-edge : goal.returns-in-err-check-edge
-returns-in-err-check-edge g c =
+pub returns-in_err-check_edge : goal.returns-in_err-check_edge
+returns-in_err-check_edge g c =
     let T = g.T.Table.lists c.args.table.now in
     let p = err_from_is_err_and c.from-residual.result c.from-residual.ensures.1 in
-    let f = first_found (edge_refused T) T.edges c.loop-k.k (table_refusal c.in-err-check-edge.field-0.0) (sym c.in-err-check-edge.ensures) in
+    let f = first_found (edge_refused T) T.edges c.loop-k.k (table_refusal c.in_err-check_edge.field-0.0) (sym c.in_err-check_edge.ensures) in
     rw (p.1, p.2) (sym f ∙ c.loop-k.invariant)
 
 pub loop-k-preserved : goal.loop-k-preserved
 loop-k-preserved g c =
     let T = g.T.Table.lists c.args.table.now in
     let lt : c.loop-k.k < length T.edges = omega arith in
-    sym (first-passed (edge_refused T) T.edges c.loop-k.k lt (sym c.in-ok-check-edge.ensures)) ∙ c.loop-k.invariant
+    sym (first-passed (edge_refused T) T.edges c.loop-k.k lt (sym c.in_ok-check_edge.ensures)) ∙ c.loop-k.invariant
 
 pub returns : goal.returns
 returns g c =

@@ -3,18 +3,18 @@ use Rattle.std.proofs.lemmas.Result.{err_from_is_err_and}
 use Rattle.table.specs.Examination.{examined}
 use Rattle.examination.proofs.examine.Goals as goal
 
-pub returns-in-err-check-limits : goal.returns-in-err-check-limits
+pub returns-in_err-check_limits : goal.returns-in_err-check_limits
 unfolding examined
-returns-in-err-check-limits g c =
+returns-in_err-check_limits g c =
     let p = err_from_is_err_and c.from-residual.result c.from-residual.ensures.1 in
-    rw (p.1, p.2, ← c.in-err-check-limits.ensures)
+    rw (p.1, p.2, ← c.in_err-check_limits.ensures)
 
-pub returns-in-err-check-edges : goal.returns-in-err-check-edges
+pub returns-in_err-check_edges : goal.returns-in_err-check_edges
 unfolding examined
-returns-in-err-check-edges g c =
-    let p = err_from_is_err_and c.from-residual-in-err-check-edges.result c.from-residual-in-err-check-edges.ensures.1 in
-    rw (p.1, p.2, ← c.in-ok-check-limits.ensures, ← c.in-err-check-edges.ensures)
+returns-in_err-check_edges g c =
+    let p = err_from_is_err_and c.from-residual-in_err-check_edges.result c.from-residual-in_err-check_edges.ensures.1 in
+    rw (p.1, p.2, ← c.in_ok-check_limits.ensures, ← c.in_err-check_edges.ensures)
 
 pub returns : goal.returns
 unfolding examined
-returns g c = rw (c.check-locations.ensures, ← c.in-ok-check-limits.ensures, ← c.in-ok-check-edges.ensures)
+returns g c = rw (c.check_locations.ensures, ← c.in_ok-check_limits.ensures, ← c.in_ok-check_edges.ensures)

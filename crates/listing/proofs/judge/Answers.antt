@@ -7,19 +7,19 @@ use Rattle.sheet.specs.Views.{opened_of, lists_of}
 use Rattle.refusal.specs.declared.fault.Refusal.{Refusal}
 use Rattle.listing.proofs.judge.Goals as goal
 
-pub returns-in-err-marks : goal.returns-in-err-marks
+pub returns-in_err-marks : goal.returns-in_err-marks
 unfolding opened_of
-returns-in-err-marks c =
-    let p = err_from_is_err_and c.from-residual-in-err-marks.result c.from-residual-in-err-marks.ensures.1 in
+returns-in_err-marks c =
+    let p = err_from_is_err_and c.from-residual-in_err-marks.result c.from-residual-in_err-marks.ensures.1 in
     record {
-      refused = rw (p.1, p.2) (c.in-err-marks.ensures.refused ∙ ap refused_of c.in-ok-sheet.ensures);
-      made = IfOk-from_err c.from-residual-in-err-marks.result (Judged c.args.bytes.now) c.from-residual-in-err-marks.ensures.0;
+      refused = rw (p.1, p.2) (c.in_err-marks.ensures.refused ∙ ap refused_of c.in_ok-sheet.ensures);
+      made = IfOk-from_err c.from-residual-in_err-marks.result (Judged c.args.bytes.now) c.from-residual-in_err-marks.ensures.0;
     }
 
 pub returns : goal.returns
 unfolding opened_of
 returns c =
     record {
-      refused = c.in-ok-marks.ensures.refused ∙ ap refused_of c.in-ok-sheet.ensures;
-      made = subst (λ (o : Result Opened Refusal). MarkedOf o (lists_of c.in-ok-sheet.sheet) (marking c.in-ok-marks.marks)) c.in-ok-sheet.ensures (refl, c.in-ok-marks.ensures.least);
+      refused = c.in_ok-marks.ensures.refused ∙ ap refused_of c.in_ok-sheet.ensures;
+      made = subst (λ (o : Result Opened Refusal). MarkedOf o (lists_of c.in_ok-sheet.sheet) (marking c.in_ok-marks.marks)) c.in_ok-sheet.ensures (refl, c.in_ok-marks.ensures.least);
     }

@@ -9,10 +9,10 @@ use Rattle.closing.proofs.close.close.Goals as goal
 pub returns-in-Ok : goal.returns-in-Ok
 returns-in-Ok g c =
     let T = g.T.Table.lists c.args.table in
-    let r = c.close-by.result in
+    let r = c.close_by.result in
     record {
-      closes = closes T (marking c.in-Ok.marks) (λ _. c.in-Ok.ensures.least) (layered r.plan (g.T.Table.lists r.below)) c.close-by.ensures.meaning;
-      below = c.close-by.ensures.below;
+      closes = closes T (marking c.in-Ok.marks) (λ _. c.in-Ok.ensures.least) (layered r.plan (g.T.Table.lists r.below)) c.close_by.ensures.meaning;
+      below = c.close_by.ensures.below;
     }
 
 pub returns-in-Err : goal.returns-in-Err

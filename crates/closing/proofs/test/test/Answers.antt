@@ -6,18 +6,18 @@ use Rattle.marks.specs.Words.{marking}
 use Rattle.refusal.specs.Refusals.{table_refusal}
 use Rattle.closing.proofs.test.test.Goals as goal
 
-pub returns-in-err-marks : goal.returns-in-err-marks
-returns-in-err-marks g c =
+pub returns-in_err-marks : goal.returns-in_err-marks
+returns-in_err-marks g c =
     let T = g.T.Table.lists c.args.table.now in
     let p = err_from_is_err_and c.from-residual.result c.from-residual.ensures.1 in
-    tests-refused T (table_refusal c.in-err-marks.field-0.0) (testing c.from-residual.result) (sym c.in-err-marks.ensures.refused) (rw (p.1, p.2))
+    tests-refused T (table_refusal c.in_err-marks.field-0.0) (testing c.from-residual.result) (sym c.in_err-marks.ensures.refused) (rw (p.1, p.2))
 
-pub check-room-requires : goal.check-room-requires
-check-room-requires g c =
+pub check_room-requires : goal.check_room-requires
+check_room-requires g c =
     let T = g.T.Table.lists c.args.table.now in
-    (c.of.ensures.planned.bound, few-edges T (sym c.in-ok-marks.ensures.refused))
+    (c.of.ensures.planned.bound, few-edges T (sym c.in_ok-marks.ensures.refused))
 
 pub returns : goal.returns
 returns g c =
     let T = g.T.Table.lists c.args.table.now in
-    tests-planned T (marking c.in-ok-marks.marks) c.of.result (testing c.check-room.result) (sym c.in-ok-marks.ensures.refused) c.in-ok-marks.ensures.least c.of.ensures.planned c.check-room.ensures
+    tests-planned T (marking c.in_ok-marks.marks) c.of.result (testing c.check_room.result) (sym c.in_ok-marks.ensures.refused) c.in_ok-marks.ensures.least c.of.ensures.planned c.check_room.ensures

@@ -11,9 +11,9 @@ returns-then-span-eq0 g c =
     let v : None ≡ value_of c.args.variables.now ts c.args.span = grind (arith, nat_tests) in
     record { value = v; test = ap is_some v ∙ value-sound c.args.variables.now ts c.args.span }
 
-pub returns-then-end-term-count : goal.returns-then-end-term-count
+pub returns-then-end-term_count : goal.returns-then-end-term_count
 unfolding value_of
-returns-then-end-term-count g c =
+returns-then-end-term_count g c =
     let ts = (g.T.Table.lists c.args.table.now).terms in
     let v : None ≡ value_of c.args.variables.now ts c.args.span = grind (arith, nat_tests) in
     record { value = v; test = ap is_some v ∙ value-sound c.args.variables.now ts c.args.span }

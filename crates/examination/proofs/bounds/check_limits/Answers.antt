@@ -4,18 +4,18 @@ use Rattle.table.specs.Examination.{limits_refused, lists_refused, processes_ref
 use Rattle.refusal.specs.Refusals.{outcome, table_refusal}
 use Rattle.examination.proofs.bounds.check_limits.Goals as goal
 
-pub returns-in-err-check-lists : goal.returns-in-err-check-lists
+pub returns-in_err-check_lists : goal.returns-in_err-check_lists
 unfolding limits_refused
-returns-in-err-check-lists g c =
+returns-in_err-check_lists g c =
     let p = err_from_is_err_and c.from-residual.result c.from-residual.ensures.1 in
-    rw (p.1, p.2, ← c.in-err-check-lists.ensures)
+    rw (p.1, p.2, ← c.in_err-check_lists.ensures)
 
-pub returns-in-err-check-processes : goal.returns-in-err-check-processes
+pub returns-in_err-check_processes : goal.returns-in_err-check_processes
 unfolding limits_refused
-returns-in-err-check-processes g c =
-    let p = err_from_is_err_and c.from-residual-in-err-check-processes.result c.from-residual-in-err-check-processes.ensures.1 in
-    rw (p.1, p.2, ← c.in-ok-check-lists.ensures, ← c.in-err-check-processes.ensures)
+returns-in_err-check_processes g c =
+    let p = err_from_is_err_and c.from-residual-in_err-check_processes.result c.from-residual-in_err-check_processes.ensures.1 in
+    rw (p.1, p.2, ← c.in_ok-check_lists.ensures, ← c.in_err-check_processes.ensures)
 
 pub returns : goal.returns
 unfolding limits_refused
-returns g c = rw (c.check-signals.ensures, ← c.in-ok-check-lists.ensures, ← c.in-ok-check-processes.ensures)
+returns g c = rw (c.check_signals.ensures, ← c.in_ok-check_lists.ensures, ← c.in_ok-check_processes.ensures)

@@ -5,19 +5,19 @@ use Rattle.table.specs.Examination.{bad_process}
 use Rattle.table.specs.Lists.{meant}
 use Rattle.examination.proofs.Limited.{limited-at, limited-past}
 use Rattle.examination.proofs.bounds.check_process.Goals as goal
-use Rattle.examination.proofs.bounds.check_process.Goals.{else-process-via-then-process+else-is-bad, else-process-via-else-process}
+use Rattle.examination.proofs.bounds.check_process.Goals.{else-process-via-then-process+else-is_bad, else-process-via-else-process}
 
-pub returns-then-is-bad : goal.returns-then-is-bad
-returns-then-is-bad g c =
+pub returns-then-is_bad : goal.returns-then-is_bad
+returns-then-is_bad g c =
     let ps = (g.T.Table.lists c.args.table.now).processes in
-    sym (limited-at bad_process ps c.args.p blank (meant c.process.new.place) true (ltb-true c.args.p (length ps) (sym c.if-process.ensures.test)) c.process.ensures.value (sym c.if-is-bad.ensures))
+    sym (limited-at bad_process ps c.args.p blank (meant c.process.new.place) true (ltb-true c.args.p (length ps) (sym c.if-process.ensures.test)) c.process.ensures.value (sym c.if-is_bad.ensures))
 
 pub returns : goal.returns
 returns g c =
     let ps = (g.T.Table.lists c.args.table.now).processes in
     elim c.else-process.branch [
-      | else-process-via-then-process+else-is-bad w ↦
-          sym (limited-at bad_process ps c.args.p blank (meant c.process.new.place) false (ltb-true c.args.p (length ps) (sym w.if-process.ensures.test)) c.process.ensures.value (sym w.if-is-bad.ensures))
+      | else-process-via-then-process+else-is_bad w ↦
+          sym (limited-at bad_process ps c.args.p blank (meant c.process.new.place) false (ltb-true c.args.p (length ps) (sym w.if-process.ensures.test)) c.process.ensures.value (sym w.if-is_bad.ensures))
       | else-process-via-else-process w ↦
           sym (limited-past bad_process ps c.args.p (ltb-false c.args.p (length ps) (sym w.if-process.ensures.test)))
     ]

@@ -5,18 +5,18 @@ use Rattle.refusal.specs.Refusals.{table_refusal}
 use Rattle.examination.proofs.Firsts.{first_found, first-passed, first-end}
 use Rattle.examination.proofs.bounds.check_signals.Goals as goal
 
-pub returns-in-err-check-signal : goal.returns-in-err-check-signal
-returns-in-err-check-signal g c =
+pub returns-in_err-check_signal : goal.returns-in_err-check_signal
+returns-in_err-check_signal g c =
     let T = g.T.Table.lists c.args.table.now in
     let p = err_from_is_err_and c.from-residual.result c.from-residual.ensures.1 in
-    let f = first_found (limited (bad_signal (length T.processes))) T.signals c.loop-s.s (table_refusal c.in-err-check-signal.field-0.0) (sym c.in-err-check-signal.ensures) in
+    let f = first_found (limited (bad_signal (length T.processes))) T.signals c.loop-s.s (table_refusal c.in_err-check_signal.field-0.0) (sym c.in_err-check_signal.ensures) in
     rw (p.1, p.2) (sym f ∙ c.loop-s.invariant)
 
 pub loop-s-preserved : goal.loop-s-preserved
 loop-s-preserved g c =
     let T = g.T.Table.lists c.args.table.now in
     let lt : c.loop-s.s < length T.signals = omega arith in
-    sym (first-passed (limited (bad_signal (length T.processes))) T.signals c.loop-s.s lt (sym c.in-ok-check-signal.ensures)) ∙ c.loop-s.invariant
+    sym (first-passed (limited (bad_signal (length T.processes))) T.signals c.loop-s.s lt (sym c.in_ok-check_signal.ensures)) ∙ c.loop-s.invariant
 
 pub returns : goal.returns
 returns g c =

@@ -5,42 +5,42 @@ use Rattle.table.specs.Edges.{proc_at, absent, blank}
 use Rattle.table.specs.Lists.{Lists, meant}
 use Rattle.examination.proofs.edge.check.Goals as goal
 
-pub returns-then-is-missing : goal.returns-then-is-missing
-returns-then-is-missing g c =
+pub returns-then-is_missing : goal.returns-then-is_missing
+returns-then-is_missing g c =
     let T = g.T.Table.lists c.args.table.now in
     let e = c.args.edge.now in
     let isP : meant c.process.new.place ≡ proc_at T e = c.process.ensures.value ∙ ap (λ i. get_or T.processes i blank) c.from.ensures in
-    let isS : c.unwrap-or-signal.result ≡ get_or T.signals e.first absent = cc (nth-or T.signals e.first absent) in
-    sym (fault-missing T e (meant c.process.new.place) c.unwrap-or-signal.result c.signal-count.result isP isS c.signal-count.ensures (sym c.if-is-missing.ensures))
+    let isS : c.unwrap_or-signal.result ≡ get_or T.signals e.first absent = cc (nth-or T.signals e.first absent) in
+    sym (fault-missing T e (meant c.process.new.place) c.unwrap_or-signal.result c.signal_count.result isP isS c.signal_count.ensures (sym c.if-is_missing.ensures))
 
-pub returns-then-is-unfit : goal.returns-then-is-unfit
-returns-then-is-unfit g c =
+pub returns-then-is_unfit : goal.returns-then-is_unfit
+returns-then-is_unfit g c =
     let T = g.T.Table.lists c.args.table.now in
     let e = c.args.edge.now in
     let isP : meant c.process.new.place ≡ proc_at T e = c.process.ensures.value ∙ ap (λ i. get_or T.processes i blank) c.from.ensures in
-    let isS : c.unwrap-or-signal.result ≡ get_or T.signals e.first absent = cc (nth-or T.signals e.first absent) in
-    sym (fault-unfit T e (meant c.process.new.place) c.unwrap-or-signal.result c.signal-count.result isP isS c.signal-count.ensures (sym c.if-is-missing.ensures) (sym c.if-is-unfit.ensures))
+    let isS : c.unwrap_or-signal.result ≡ get_or T.signals e.first absent = cc (nth-or T.signals e.first absent) in
+    sym (fault-unfit T e (meant c.process.new.place) c.unwrap_or-signal.result c.signal_count.result isP isS c.signal_count.ensures (sym c.if-is_missing.ensures) (sym c.if-is_unfit.ensures))
 
-pub returns-then-is-malformed : goal.returns-then-is-malformed
-returns-then-is-malformed g c =
+pub returns-then-is_malformed : goal.returns-then-is_malformed
+returns-then-is_malformed g c =
     let T = g.T.Table.lists c.args.table.now in
     let e = c.args.edge.now in
     let isP : meant c.process.new.place ≡ proc_at T e = c.process.ensures.value ∙ ap (λ i. get_or T.processes i blank) c.from.ensures in
-    let isS : c.unwrap-or-signal.result ≡ get_or T.signals e.first absent = cc (nth-or T.signals e.first absent) in
-    sym (fault-malformed T e (meant c.process.new.place) c.unwrap-or-signal.result c.signal-count.result isP isS c.signal-count.ensures (sym c.if-is-missing.ensures) (sym c.if-is-unfit.ensures) (sym c.if-is-malformed.ensures))
+    let isS : c.unwrap_or-signal.result ≡ get_or T.signals e.first absent = cc (nth-or T.signals e.first absent) in
+    sym (fault-malformed T e (meant c.process.new.place) c.unwrap_or-signal.result c.signal_count.result isP isS c.signal_count.ensures (sym c.if-is_missing.ensures) (sym c.if-is_unfit.ensures) (sym c.if-is_malformed.ensures))
 
-pub returns-then-is-untrue : goal.returns-then-is-untrue
-returns-then-is-untrue g c =
+pub returns-then-is_untrue : goal.returns-then-is_untrue
+returns-then-is_untrue g c =
     let T = g.T.Table.lists c.args.table.now in
     let e = c.args.edge.now in
     let isP : meant c.process.new.place ≡ proc_at T e = c.process.ensures.value ∙ ap (λ i. get_or T.processes i blank) c.from.ensures in
-    let isS : c.unwrap-or-signal.result ≡ get_or T.signals e.first absent = cc (nth-or T.signals e.first absent) in
-    sym (fault-untrue T e (meant c.process.new.place) c.unwrap-or-signal.result c.signal-count.result isP isS c.signal-count.ensures (sym c.if-is-missing.ensures) (sym c.if-is-unfit.ensures) (sym c.if-is-malformed.ensures) (sym c.if-is-untrue.ensures))
+    let isS : c.unwrap_or-signal.result ≡ get_or T.signals e.first absent = cc (nth-or T.signals e.first absent) in
+    sym (fault-untrue T e (meant c.process.new.place) c.unwrap_or-signal.result c.signal_count.result isP isS c.signal_count.ensures (sym c.if-is_missing.ensures) (sym c.if-is_unfit.ensures) (sym c.if-is_malformed.ensures) (sym c.if-is_untrue.ensures))
 
-pub returns-else-is-untrue : goal.returns-else-is-untrue
-returns-else-is-untrue g c =
+pub returns-else-is_untrue : goal.returns-else-is_untrue
+returns-else-is_untrue g c =
     let T = g.T.Table.lists c.args.table.now in
     let e = c.args.edge.now in
     let isP : meant c.process.new.place ≡ proc_at T e = c.process.ensures.value ∙ ap (λ i. get_or T.processes i blank) c.from.ensures in
-    let isS : c.unwrap-or-signal.result ≡ get_or T.signals e.first absent = cc (nth-or T.signals e.first absent) in
-    sym (fault-none T e (meant c.process.new.place) c.unwrap-or-signal.result c.signal-count.result isP isS c.signal-count.ensures (sym c.if-is-missing.ensures) (sym c.if-is-unfit.ensures) (sym c.if-is-malformed.ensures) (sym c.if-is-untrue.ensures))
+    let isS : c.unwrap_or-signal.result ≡ get_or T.signals e.first absent = cc (nth-or T.signals e.first absent) in
+    sym (fault-none T e (meant c.process.new.place) c.unwrap_or-signal.result c.signal_count.result isP isS c.signal_count.ensures (sym c.if-is_missing.ensures) (sym c.if-is_unfit.ensures) (sym c.if-is_malformed.ensures) (sym c.if-is_untrue.ensures))

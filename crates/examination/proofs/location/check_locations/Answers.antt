@@ -10,13 +10,13 @@ returns-in-Some g c =
     let m = mixed-found T c.requires c.leaving-acting.result.flags c.leaving-waiting.result.flags c.leaving-acting.ensures c.leaving-waiting.ensures in
     rw (← m, ← c.in-Some.ensures)
 
-pub returns-in-Some-find-location : goal.returns-in-Some-find-location
+pub returns-in-Some-find_location : goal.returns-in-Some-find_location
 unfolding locations_refused
-returns-in-Some-find-location g c =
+returns-in-Some-find_location g c =
     let T = g.T.Table.lists c.args.table.now in
     let m = mixed-found T c.requires c.leaving-acting.result.flags c.leaving-waiting.result.flags c.leaving-acting.ensures c.leaving-waiting.ensures in
     let s = stuck-found T c.requires c.leaving-acting.result.flags c.leaving-free.result.flags c.leaving-acting.ensures c.leaving-free.ensures in
-    rw (← m, ← c.in_default.ensures, ← s, ← c.in-Some-find-location.ensures)
+    rw (← m, ← c.in_default.ensures, ← s, ← c.in-Some-find_location.ensures)
 
 pub returns : goal.returns
 unfolding locations_refused
@@ -24,4 +24,4 @@ returns g c =
     let T = g.T.Table.lists c.args.table.now in
     let m = mixed-found T c.requires c.leaving-acting.result.flags c.leaving-waiting.result.flags c.leaving-acting.ensures c.leaving-waiting.ensures in
     let s = stuck-found T c.requires c.leaving-acting.result.flags c.leaving-free.result.flags c.leaving-acting.ensures c.leaving-free.ensures in
-    rw (← m, ← c.in_default.ensures, ← s, ← c.in_default-find-location.ensures)
+    rw (← m, ← c.in_default.ensures, ← s, ← c.in_default-find_location.ensures)

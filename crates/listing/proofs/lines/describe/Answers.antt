@@ -7,11 +7,11 @@ use Rattle.listing.proofs.lines.describe.Goals as goal
 pub loop-p-preserved : goal.loop-p-preserved
 loop-p-preserved g c =
     let f = table_text (g.T.Table.lists c.args.table.now) (marking c.args.marks.now) in
-    grown f c.loop-p.p c.process-count-p-end.result _ _ _ c.loop-p-test.true c.in-ok-push-process.ensures c.loop-p.invariant
+    grown f c.loop-p.p c.process_count-p-end.result _ _ _ c.loop-p-test.true c.in_ok-push_process.ensures c.loop-p.invariant
 
 pub returns : goal.returns
 returns g c =
     let T = g.T.Table.lists c.args.table.now in
     let M = marking c.args.marks.now in
-    let e = ended (table_text T M) c.loop-p.p c.process-count-p-end.result _ _ c.loop-p-test.false c.loop-p.invariant in
-    c.in-ok-push-count.ensures ∙ ap (λ b. b ++ count_text T M) (e ∙ ap (each_from (table_text T M) 0) c.process-count-p-end.ensures)
+    let e = ended (table_text T M) c.loop-p.p c.process_count-p-end.result _ _ c.loop-p-test.false c.loop-p.invariant in
+    c.in_ok-push_count.ensures ∙ ap (λ b. b ++ count_text T M) (e ∙ ap (each_from (table_text T M) 0) c.process_count-p-end.ensures)

@@ -14,8 +14,8 @@ loop-l-preserved c =
     let M = marking c.args.marks.now in
     let f = location_text M (meant c.args.process.now) c.args.p in
     let l = c.loop-l.l in
-    let h : string_bytes c.push-sort-in-loop-l.new.text ≡ string_bytes c.loop-l.text ++ f l =
-    c.in-ok-push-sort-2.ensures ∙ ap (λ b. b ++ each_from (sort_text Timer M c.args.p l) 0 c.args.process.now.timers) c.in-ok-push-sort.ensures ∙ append_assoc (string_bytes c.loop-l.text) (each_from (sort_text Variable M c.args.p l) 0 c.args.process.now.variables) (each_from (sort_text Timer M c.args.p l) 0 c.args.process.now.timers) in
+    let h : string_bytes c.push_sort-in-loop-l.new.text ≡ string_bytes c.loop-l.text ++ f l =
+    c.in_ok-push_sort-2.ensures ∙ ap (λ b. b ++ each_from (sort_text Timer M c.args.p l) 0 c.args.process.now.timers) c.in_ok-push_sort.ensures ∙ append_assoc (string_bytes c.loop-l.text) (each_from (sort_text Variable M c.args.p l) 0 c.args.process.now.variables) (each_from (sort_text Timer M c.args.p l) 0 c.args.process.now.timers) in
     grown f l c.from-l-end.result _ _ _ c.loop-l-test.true h c.loop-l.invariant
 
 pub returns : goal.returns

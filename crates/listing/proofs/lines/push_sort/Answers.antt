@@ -10,8 +10,8 @@ loop-n-init c = begun (sort_text c.args.sort (marking c.args.marks.now) c.args.p
 pub loop-n-preserved : goal.loop-n-preserved
 loop-n-preserved c =
     let f = sort_text c.args.sort (marking c.args.marks.now) c.args.p c.args.l in
-    let h : string_bytes c.push-instance.new.text ≡ string_bytes c.loop-n.text ++ f c.loop-n.n =
-    c.in-ok-push-instance.ensures ∙ rw (c.is-marked.ensures, c.letter.ensures) in
+    let h : string_bytes c.push_instance.new.text ≡ string_bytes c.loop-n.text ++ f c.loop-n.n =
+    c.in_ok-push_instance.ensures ∙ rw (c.is_marked.ensures, c.letter.ensures) in
     grown f c.loop-n.n c.from-n-end.result _ _ _ c.loop-n-test.true h c.loop-n.invariant
 
 pub returns : goal.returns

@@ -6,6 +6,6 @@ use Rattle.marks.proofs.count.instances.Goals as goal
 pub loop-p-preserved : goal.loop-p-preserved
 loop-p-preserved g c =
     let ps = (g.T.Table.lists c.args.table.now).processes in (
-      omega (arith, c.of-process-total.ensures.bound),
-      instances-step ps c.loop-p.p _ (meant c.process.new.place) c.loop-p.total c.of-process-total.result c.loop-p.invariant.1 c.process.ensures.value c.of-process-total.ensures.value refl,
+      omega (arith, c.of_process-total.ensures.bound),
+      instances-step ps c.loop-p.p _ (meant c.process.new.place) c.loop-p.total c.of_process-total.result c.loop-p.invariant.1 c.process.ensures.value c.of_process-total.ensures.value refl,
     )

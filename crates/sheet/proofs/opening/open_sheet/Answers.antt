@@ -3,13 +3,13 @@ use Rattle.reading.specs.Opening.{opened}
 use Rattle.sheet.specs.Views.{contents_of}
 use Rattle.sheet.proofs.opening.open_sheet.Goals as goal
 
-pub returns-in-err-sheet : goal.returns-in-err-sheet
+pub returns-in_err-sheet : goal.returns-in_err-sheet
 unfolding opened
-returns-in-err-sheet c = search rules
+returns-in_err-sheet c = search rules
 
-pub returns-in-err-check-edges : goal.returns-in-err-check-edges
+pub returns-in_err-check_edges : goal.returns-in_err-check_edges
 unfolding opened contents_of
-returns-in-err-check-edges c = search rules
+returns-in_err-check_edges c = search rules
 
 pub returns : goal.returns
 unfolding opened contents_of

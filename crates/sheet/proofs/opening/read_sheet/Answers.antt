@@ -4,61 +4,61 @@ use Rattle.reading.specs.Formats.{after}
 use Rattle.reading.specs.Layout.{sheet_format}
 use Rattle.sheet.proofs.opening.read_sheet.Goals as goal
 
-pub returns-in-err-counts : goal.returns-in-err-counts
+pub returns-in_err-counts : goal.returns-in_err-counts
 unfolding after sheet_format
-returns-in-err-counts c = search rules
+returns-in_err-counts c = search rules
 
-pub returns-in-err-processes : goal.returns-in-err-processes
+pub returns-in_err-processes : goal.returns-in_err-processes
 unfolding after sheet_format
-returns-in-err-processes c = search rules
+returns-in_err-processes c = search rules
 
-pub returns-in-err-signals : goal.returns-in-err-signals
+pub returns-in_err-signals : goal.returns-in_err-signals
 unfolding after sheet_format
-returns-in-err-signals c = search rules
+returns-in_err-signals c = search rules
 
-pub returns-in-err-edges : goal.returns-in-err-edges
+pub returns-in_err-edges : goal.returns-in_err-edges
 unfolding after sheet_format
-returns-in-err-edges c = search rules
+returns-in_err-edges c = search rules
 
-pub returns-in-err-terms : goal.returns-in-err-terms
+pub returns-in_err-terms : goal.returns-in_err-terms
 unfolding after sheet_format
-returns-in-err-terms c = search rules
+returns-in_err-terms c = search rules
 
-pub returns-in-err-fill : goal.returns-in-err-fill
+pub returns-in_err-fill : goal.returns-in_err-fill
 unfolding after sheet_format
-returns-in-err-fill c = search rules
+returns-in_err-fill c = search rules
 
-pub returns-in-err-names : goal.returns-in-err-names
+pub returns-in_err-names : goal.returns-in_err-names
 unfolding after sheet_format
-returns-in-err-names c = search rules
+returns-in_err-names c = search rules
 
-pub returns-in-err-end : goal.returns-in-err-end
+pub returns-in_err-end : goal.returns-in_err-end
 unfolding after sheet_format
-returns-in-err-end c = search rules
+returns-in_err-end c = search rules
 
 pub returns : goal.returns
 returns c =
-    let n = c.in-ok-counts.counts in
+    let n = c.in_ok-counts.counts in
     let m : c.from.result + c.from-2.result ≡ n.processes + n.signals = omega arith in
     let l : length c.processes.new.places ≡ 8 = search rules in
-    let few : n.processes ≤ 8 = c.in-ok-counts.ensures.fits.0 in
+    let few : n.processes ≤ 8 = c.in_ok-counts.ensures.fits.0 in
     let at =
-    sheet-edges c.processes.new.places c.header.ensures.reads c.in-ok-counts.was c.processes.ensures.reads c.in-ok-processes.was
-    c.signals.ensures.reads c.in-ok-signals.was c.edges.ensures.reads c.in-ok-edges.was
-    c.terms.ensures.reads c.in-ok-terms.was c.fill.ensures.reads c.in-ok-fill.was
-    m c.names.ensures.reads c.in-ok-names.was c.end.ensures.reads c.in-ok-end.was
-    (omega arith) c.in-ok-counts.ensures.moves c.in-ok-processes.ensures.size c.in-ok-signals.ensures.moves in
+    sheet-edges c.processes.new.places c.header.ensures.reads c.in_ok-counts.was c.processes.ensures.reads c.in_ok-processes.was
+    c.signals.ensures.reads c.in_ok-signals.was c.edges.ensures.reads c.in_ok-edges.was
+    c.terms.ensures.reads c.in_ok-terms.was c.fill.ensures.reads c.in_ok-fill.was
+    m c.names.ensures.reads c.in_ok-names.was c.end.ensures.reads c.in_ok-end.was
+    (omega arith) c.in_ok-counts.ensures.moves c.in_ok-processes.ensures.size c.in_ok-signals.ensures.moves in
     record {
       reads =
-          sheet-read c.processes.new.places c.header.ensures.reads c.in-ok-counts.was c.processes.ensures.reads c.in-ok-processes.was
-          c.signals.ensures.reads c.in-ok-signals.was c.edges.ensures.reads c.in-ok-edges.was
-          c.terms.ensures.reads c.in-ok-terms.was c.fill.ensures.reads c.in-ok-fill.was
-          m c.names.ensures.reads c.in-ok-names.was c.end.ensures.reads c.in-ok-end.was;
+          sheet-read c.processes.new.places c.header.ensures.reads c.in_ok-counts.was c.processes.ensures.reads c.in_ok-processes.was
+          c.signals.ensures.reads c.in_ok-signals.was c.edges.ensures.reads c.in_ok-edges.was
+          c.terms.ensures.reads c.in_ok-terms.was c.fill.ensures.reads c.in_ok-fill.was
+          m c.names.ensures.reads c.in_ok-names.was c.end.ensures.reads c.in_ok-end.was;
       edges = at;
       names =
-          sheet-opened c.processes.new.places c.header.ensures.reads c.in-ok-counts.was c.processes.ensures.reads c.in-ok-processes.was
-          c.signals.ensures.reads c.in-ok-signals.was c.edges.ensures.reads c.in-ok-edges.was
-          c.terms.ensures.reads c.in-ok-terms.was c.fill.ensures.reads c.in-ok-fill.was
-          m c.names.ensures.reads c.in-ok-names.was c.end.ensures.reads c.in-ok-end.was
-          at few l c.in-ok-edges.ensures.moves c.in-ok-terms.ensures.moves c.in-ok-fill.ensures.moves c.in-ok-names.ensures.places;
+          sheet-opened c.processes.new.places c.header.ensures.reads c.in_ok-counts.was c.processes.ensures.reads c.in_ok-processes.was
+          c.signals.ensures.reads c.in_ok-signals.was c.edges.ensures.reads c.in_ok-edges.was
+          c.terms.ensures.reads c.in_ok-terms.was c.fill.ensures.reads c.in_ok-fill.was
+          m c.names.ensures.reads c.in_ok-names.was c.end.ensures.reads c.in_ok-end.was
+          at few l c.in_ok-edges.ensures.moves c.in_ok-terms.ensures.moves c.in_ok-fill.ensures.moves c.in_ok-names.ensures.places;
     }

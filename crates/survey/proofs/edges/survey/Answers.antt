@@ -19,8 +19,8 @@ loop-k-preserved g c =
     elim c.match-edge.branch [
       | in-Some w ↦
           let e = w.in-Some.edge in
-          let ss : c.match-edge.seen.spots ≡ noted_spots (marked_guard T M e) e was.spots = ap (λ (x : Survey). x.spots) w.seen-is ∙ w.note-chaos.ensures.same ∙ w.note.ensures.spots ∙ ap (λ b. noted_spots b e was.spots) w.has-marked-guard.ensures in
-          let cs : c.match-edge.seen.chaotic ≡ noted_chaos (invites T e) e was.chaotic = ap (λ (x : Survey). x.chaotic) w.seen-is ∙ w.note-chaos.ensures.chaotic ∙ ap (noted_chaos w.is-inviting.result e) w.note.ensures.same ∙ ap (λ b. noted_chaos b e was.chaotic) w.is-inviting.ensures in
+          let ss : c.match-edge.seen.spots ≡ noted_spots (marked_guard T M e) e was.spots = ap (λ (x : Survey). x.spots) w.seen-is ∙ w.note_chaos.ensures.same ∙ w.note.ensures.spots ∙ ap (λ b. noted_spots b e was.spots) w.has_marked_guard.ensures in
+          let cs : c.match-edge.seen.chaotic ≡ noted_chaos (invites T e) e was.chaotic = ap (λ (x : Survey). x.chaotic) w.seen-is ∙ w.note_chaos.ensures.chaotic ∙ ap (noted_chaos w.is_inviting.result e) w.note.ensures.same ∙ ap (λ b. noted_chaos b e was.chaotic) w.is_inviting.ensures in
           let more = surveyed-more T M T.edges c.loop-k.k e was.spots was.chaotic was.size was.eight (sym w.in-Some.ensures) c.loop-k.invariant in
           subst (λ xs. Surveyed T M (take (c.loop-k.k + 1) T.edges) xs c.match-edge.seen.chaotic) (sym ss) (subst (λ xs. Surveyed T M (take (c.loop-k.k + 1) T.edges) (noted_spots (marked_guard T M e) e was.spots) xs) (sym cs) more)
       | in_default w ↦

@@ -18,8 +18,8 @@ returns-in-None g c =
     let n = c.from.ensures in
     cc
 
-pub returns-then-is-hit : goal.returns-then-is-hit
-returns-then-is-hit g c =
+pub returns-then-is_hit : goal.returns-then-is_hit
+returns-then-is_hit g c =
     let T = g.T.Table.lists c.args.table.now in
     let f = hits (marking c.args.marks.now) c.args.edge.now in
     let m = marked-hits c.args.marks.now c.args.edge.now T c.args.span in

@@ -1,12 +1,11 @@
-use Rattle.std.proofs.Common.{◌≡◌, ◌+◌, sym, refl, ap, ◌∙◌, arith}
-use Rattle.table.specs.Expressions.{formed, depth_after}
-use Rattle.table.proofs.Windows.{window, window-whole}
+use Rattle.std.proofs.Common.{◌+◌, arith}
+use Rattle.table.proofs.Windows.{window-whole}
 use Rattle.table.proofs.Forms.{formed-window-end, formed-window-none, formed-window-stops, formed-window-goes, depth-bound}
 use Rattle.table.proofs.expression.is_formed.Goals as goal
 use Rattle.table.proofs.expression.is_formed.Goals.{else-loop-i-test, then-loop-i-test+in-None}
 
-pub returns-in-None-depth-after : goal.returns-in-None-depth-after
-returns-in-None-depth-after g c =
+pub returns-in-None-depth_after : goal.returns-in-None-depth_after
+returns-in-None-depth_after g c =
     let ts = (g.T.Table.lists c.args.table.now).terms in
     let a = formed-window-stops c.args.variables ts c.loop-i.i (c.from-start.result + c.from.result) c.loop-i.depth c.in-Some.term c.loop-i-test.true (cc) (cc) in
     let b = window-whole ts c.args.span.start c.args.span.count in
@@ -16,9 +15,9 @@ returns-in-None-depth-after g c =
 pub loop-i-preserved : goal.loop-i-preserved
 loop-i-preserved g c =
     let ts = (g.T.Table.lists c.args.table.now).terms in
-    let a = formed-window-goes c.args.variables ts c.loop-i.i (c.from-start.result + c.from.result) c.loop-i.depth c.in-Some.term c.in-Some-depth-after.after c.loop-i-test.true (cc) (cc) in
+    let a = formed-window-goes c.args.variables ts c.loop-i.i (c.from-start.result + c.from.result) c.loop-i.depth c.in-Some.term c.in-Some-depth_after.after c.loop-i-test.true (cc) (cc) in
     let k = c.loop-i.invariant.0 in
-    (cc, omega (arith, depth-bound c.args.variables c.in-Some.term c.loop-i.depth c.in-Some-depth-after.after (cc), c.loop-i.invariant.1))
+    (cc, omega (arith, depth-bound c.args.variables c.in-Some.term c.loop-i.depth c.in-Some-depth_after.after (cc), c.loop-i.invariant.1))
 
 pub returns : goal.returns
 returns g c =

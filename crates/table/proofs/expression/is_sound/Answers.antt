@@ -7,10 +7,10 @@ pub returns-then-span-eq0 : goal.returns-then-span-eq0
 unfolding sound
 returns-then-span-eq0 g c = grind (arith, nat_tests)
 
-pub returns-then-end-term-count : goal.returns-then-end-term-count
+pub returns-then-end-term_count : goal.returns-then-end-term_count
 unfolding sound
-returns-then-end-term-count g c = grind (arith, nat_tests)
+returns-then-end-term_count g c = grind (arith, nat_tests)
 
-pub returns-else-end-term-count : goal.returns-else-end-term-count
+pub returns-else-end-term_count : goal.returns-else-end-term_count
 unfolding sound
-returns-else-end-term-count g c = grind (arith, nat_tests)
+returns-else-end-term_count g c = grind (arith, nat_tests)

@@ -1,6 +1,6 @@
-use Rattle.std.proofs.Common.{◌≡◌, ◌+◌, sym, refl, ap, ◌∙◌}
-use Rattle.table.specs.Expressions.{any, reads}
-use Rattle.table.proofs.Windows.{window, window-whole}
+use Rattle.std.proofs.Common.{◌+◌}
+use Rattle.table.specs.Expressions.{reads}
+use Rattle.table.proofs.Windows.{window-whole}
 use Rattle.table.proofs.Scans.{any-window-end, any-window-none, any-window-hit, any-window-miss}
 use Rattle.table.proofs.expression.mentions.Goals as goal
 

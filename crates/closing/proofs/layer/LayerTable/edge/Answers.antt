@@ -13,13 +13,13 @@ returns-then-not-closes g c =
 pub overflow-sub-k : goal.overflow-sub-k
 overflow-sub-k g c =
     let T = g.T.Table.lists c.args.self.now.below in
-    omega (arith, c.edge-count.ensures, none-past T.edges c.args.k (sym c.in-None.ensures))
+    omega (arith, c.edge_count.ensures, none-past T.edges c.args.k (sym c.in-None.ensures))
 
 pub returns-in-Some : goal.returns-in-Some
 returns-in-Some g c =
     let q = c.args.self.now.plan in
     let T = g.T.Table.lists c.args.self.now.below in
-    ap Some c.close-edge.ensures
+    ap Some c.close_edge.ensures
     ∙ sym (edge_at q T c.args.k c.in-Some.edge (sym c.in-Some.ensures))
     ∙ sym (ap (λ S. slice_get S.edges c.args.k) (layer-on q T (sym c.if-not-closes.ensures)))
 
@@ -27,7 +27,7 @@ pub returns-in-None : goal.returns-in-None
 returns-in-None g c =
     let q = c.args.self.now.plan in
     let T = g.T.Table.lists c.args.self.now.below in
-    c.added-edge.ensures
-    ∙ ap (λ n. slice_get (loops_in q) (c.args.k - n)) c.edge-count.ensures
+    c.added_edge.ensures
+    ∙ ap (λ n. slice_get (loops_in q) (c.args.k - n)) c.edge_count.ensures
     ∙ sym (edge-past q T c.args.k (sym c.in-None.ensures))
     ∙ sym (ap (λ S. slice_get S.edges c.args.k) (layer-on q T (sym c.if-not-closes.ensures)))

@@ -16,11 +16,11 @@ returns-then-closes g c =
     record {
       test = was.test ∙ ap (ltb c.args.p) (sym (processes-length q T));
       value =
-          c.close-process.ensures
+          c.close_process.ensures
           ∙ ap (process_in q c.args.p) was.value
           ∙ sym (process-at q T c.args.p d d l)
           ∙ sym (ap (λ S. get_or S.processes c.args.p d) (layer-on q T (sym c.if-closes.ensures)));
-      same = subst (λ (b : Bool). MatchBool b (Unit {0}) (c.close-process.new.process ≡ c.args.place.now)) (sym c.if-found.true) tt;
+      same = subst (λ (b : Bool). MatchBool b (Unit {0}) (c.close_process.new.process ≡ c.args.place.now)) (sym c.if-found.true) tt;
     }
 
 pub returns-else-found : goal.returns-else-found

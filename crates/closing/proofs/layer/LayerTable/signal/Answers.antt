@@ -15,7 +15,7 @@ pub returns-in-Some : goal.returns-in-Some
 returns-in-Some g c =
     let q = c.args.self.now.plan in
     let T = g.T.Table.lists c.args.self.now.below in
-    ap Some c.closed-signal.ensures
+    ap Some c.closed_signal.ensures
     ∙ ap (option_map closed_signal) c.in-Some.ensures
     ∙ sym (signal-at q T c.args.s)
     ∙ sym (ap (λ S. slice_get S.signals c.args.s) (layer-on q T (sym c.if-not-closes.ensures)))

@@ -7,7 +7,7 @@ use Rattle.closing.proofs.plan.Plan.added_edge.Goals as goal
 pub returns-in-Some : goal.returns-in-Some
 returns-in-Some c =
     let s = c.args.self.now.loops in
-    ap Some c.loop-edge.ensures ∙ ap (option_map loop_edge) c.in-Some.ensures ∙ sym (nth-map loop_edge (take s.wanted s.items) c.args.k)
+    ap Some c.loop_edge.ensures ∙ ap (option_map loop_edge) c.in-Some.ensures ∙ sym (nth-map loop_edge (take s.wanted s.items) c.args.k)
 
 pub returns-in-None : goal.returns-in-None
 returns-in-None c =

@@ -6,4 +6,4 @@ pub returns-then-process-lt-TIMERS : goal.returns-then-process-lt-TIMERS
 returns-then-process-lt-TIMERS c =
     let r = c.args.process.now in
     let l : r.timers < length r.settings = search rules in
-    chaos-added c.args.self.now c.args.p c.from.result r c.from.ensures c.if-process-lt-TIMERS.true l (sym c.if-is-chaotic.ensures)
+    chaos-added c.args.self.now c.args.p c.from.result r c.from.ensures c.if-process-lt-TIMERS.true l (sym c.if-is_chaotic.ensures)

@@ -16,14 +16,14 @@ loop-l-preserved c =
     let M = marking c.args.marks.now in
     let ss = c.args.survey.now.spots in
     let cs = c.args.survey.now.chaotic in
-    let last = c.add-spot.new.self in
+    let last = c.add_spot.new.self in
     let before : List Edge → List Edge = λ es. es ++ of_process M ss cs (record { locations = c.args.locations; timers = c.args.timers }) c.args.process c.loop-l.l in
     let s : c.spot-spot.result ≡ spot_at ss c.args.process c.loop-l.l = c.spot-spot.ensures ∙ ap (λ i. spot_at ss i c.from.result) c.from-p.ensures ∙ ap (spot_at ss c.args.process) c.from.ensures in
-    let k : c.is-chaotic-chaotic.result ≡ chaotic_at cs c.args.process = c.is-chaotic-chaotic.ensures ∙ ap (chaotic_at cs) c.from-p.ensures in (
+    let k : c.is_chaotic-chaotic.result ≡ chaotic_at cs c.args.process = c.is_chaotic-chaotic.ensures ∙ ap (chaotic_at cs) c.from-p.ensures in (
       λ es h.
-          let a = c.add-spot.ensures.holds (es ++ of_process M ss cs (record { locations = c.args.locations; timers = c.args.timers }) c.args.process c.loop-l.l) (c.loop-l.invariant.0 es h) in
+          let a = c.add_spot.ensures.holds (es ++ of_process M ss cs (record { locations = c.args.locations; timers = c.args.timers }) c.args.process c.loop-l.l) (c.loop-l.invariant.0 es h) in
           spots-more M ss cs (record { locations = c.args.locations; timers = c.args.timers }) c.args.process c.loop-l.l last.items last.wanted es
           (subst (λ (x : Spot). Holds last.items last.wanted (before es ++ at_spot M x (chaotic_at cs c.args.process) c.args.process c.loop-l.l c.args.timers)) s
           (subst (λ (x : Bool). Holds last.items last.wanted (before es ++ at_spot M c.spot-spot.result x c.args.process c.loop-l.l c.args.timers)) k a)),
-      omega (arith, c.add-spot.ensures.bound, c.loop-l.invariant.1),
+      omega (arith, c.add_spot.ensures.bound, c.loop-l.invariant.1),
     )

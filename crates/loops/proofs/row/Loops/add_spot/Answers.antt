@@ -18,24 +18,24 @@ returns c =
     let p = c.args.place.0 in
     let l = c.args.place.1 in
     let n = c.args.timers in
-    let last = c.add-timers.new.self in
+    let last = c.add_timers.new.self in
     record {
       holds = λ es h.
           elim c.if-chaotic.branch [
             | then-chaotic w ↦
                 let a = w.push.ensures.holds es h in
                 let b = subst (λ (s : Loops). Holds s.items s.wanted (es ++ chaos_edges true p l n)) (sym w.self-is) a in
-                let d = c.add-timers.ensures.holds (es ++ chaos_edges true p l n) b in
+                let d = c.add_timers.ensures.holds (es ++ chaos_edges true p l n) b in
                 spot-waiting M c.args.spot c.args.chaotic p l n last.items last.wanted es c.if-spot.false (subst (λ (x : Bool). Holds last.items last.wanted ((es ++ chaos_edges x p l n) ++ spot_timers M c.args.spot p l n)) (sym w.if-chaotic.true) d)
             | else-chaotic w ↦
                 let b = subst (λ (s : Loops). Holds s.items s.wanted es) (sym w.self-is) h in
                 let e = holds-nothing c.if-chaotic.self.items c.if-chaotic.self.wanted es b in
-                let d = c.add-timers.ensures.holds (es ++ []) e in
+                let d = c.add_timers.ensures.holds (es ++ []) e in
                 spot-waiting M c.args.spot c.args.chaotic p l n last.items last.wanted es c.if-spot.false (subst (λ (x : Bool). Holds last.items last.wanted ((es ++ chaos_edges x p l n) ++ spot_timers M c.args.spot p l n)) (sym w.if-chaotic.false) d)
           ];
       bound =
           elim c.if-chaotic.branch [
-            | then-chaotic w ↦ omega (arith, c.add-timers.ensures.bound, ap (λ (s : Loops). s.wanted) w.self-is, w.push.ensures.bound)
-            | else-chaotic w ↦ omega (arith, c.add-timers.ensures.bound, ap (λ (s : Loops). s.wanted) w.self-is)
+            | then-chaotic w ↦ omega (arith, c.add_timers.ensures.bound, ap (λ (s : Loops). s.wanted) w.self-is, w.push.ensures.bound)
+            | else-chaotic w ↦ omega (arith, c.add_timers.ensures.bound, ap (λ (s : Loops). s.wanted) w.self-is)
           ];
     }

@@ -14,13 +14,13 @@ loop-n-preserved c =
     let p = c.args.place.0 in
     let l = c.args.place.1 in
     let n = c.loop-n.n in
-    let last = c.add-timer.new.self in (
+    let last = c.add_timer.new.self in (
       λ es h.
-          let a = c.add-timer.ensures.holds (es ++ spot_timers M c.args.spot p l n) (c.loop-n.invariant.0 es h) in
+          let a = c.add_timer.ensures.holds (es ++ spot_timers M c.args.spot p l n) (c.loop-n.invariant.0 es h) in
           let m : c.timer-marked.result ≡ M.timer p l n = c.timer-marked.ensures.value ∙ ap (λ i. M.timer i c.from-in-loop-n.result c.from-at.result) c.from.ensures ∙ ap (λ i. M.timer p i c.from-at.result) c.from-in-loop-n.ensures ∙ ap (M.timer p l) c.from-at.ensures in
           let b : c.bit.result ≡ bit c.args.spot.handled n = c.bit.ensures.value ∙ ap (bit c.args.spot.handled) c.from-at.ensures in
           timers-more M c.args.spot p l n last.items last.wanted es
           (subst (λ (x : Bool). Holds last.items last.wanted ((es ++ spot_timers M c.args.spot p l n) ++ timer_edges x (bit c.args.spot.handled n) p l n)) m
           (subst (λ (x : Bool). Holds last.items last.wanted ((es ++ spot_timers M c.args.spot p l n) ++ timer_edges c.timer-marked.result x p l n)) b a)),
-      omega (arith, c.add-timer.ensures.bound, c.loop-n.invariant.1),
+      omega (arith, c.add_timer.ensures.bound, c.loop-n.invariant.1),
     )

@@ -5,7 +5,7 @@ use Rattle.reading.proofs.Viewing.{read-or}
 use Rattle.reading.proofs.reader.Reader.edge_here.Goals as goal
 
 pub returns-then-self : goal.returns-then-self
-returns-then-self c = c.unwrap-or.ensures ∙ read-or no_edge c.edge.ensures.reads
+returns-then-self c = c.unwrap_or.ensures ∙ read-or no_edge c.edge.ensures.reads
 
 pub returns : goal.returns
 returns c =

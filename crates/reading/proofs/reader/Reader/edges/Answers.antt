@@ -8,16 +8,16 @@ use Rattle.reading.proofs.reader.Reader.edges.Goals as goal
 pub loop-i-init : goal.loop-i-init
 loop-i-init c = (row-none edge_format.reads c.args.self.now, omega arith)
 
-pub returns-in-err-edge : goal.returns-in-err-edge
-returns-in-err-edge c = record {
-  reads = row-exit (omega arith) c.loop-i.invariant.0 c.edge.ensures.reads c.in-err-edge.was c.from-residual.ensures.1;
+pub returns-in_err-edge : goal.returns-in_err-edge
+returns-in_err-edge c = record {
+  reads = row-exit (omega arith) c.loop-i.invariant.0 c.edge.ensures.reads c.in_err-edge.was c.from-residual.ensures.1;
   moves = search rules;
 }
 
 pub loop-i-preserved : goal.loop-i-preserved
 loop-i-preserved c = (
-  row_next (edge_format) no_edge 60 c.loop-i.invariant.0 c.loop-i.invariant.1 c.edge.ensures.reads c.in-ok-edge.was,
-  omega (arith, c.in-ok-edge.ensures.moves),
+  row_next (edge_format) no_edge 60 c.loop-i.invariant.0 c.loop-i.invariant.1 c.edge.ensures.reads c.in_ok-edge.was,
+  omega (arith, c.in_ok-edge.ensures.moves),
 )
 
 pub returns : goal.returns

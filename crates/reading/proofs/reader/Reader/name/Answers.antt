@@ -3,9 +3,9 @@ use Rattle.reading.specs.Formats.{after}
 use Rattle.reading.specs.Layout.{name_format}
 use Rattle.reading.proofs.reader.Reader.name.Goals as goal
 
-pub returns-in-err-length : goal.returns-in-err-length
+pub returns-in_err-length : goal.returns-in_err-length
 unfolding after name_format
-returns-in-err-length c = search rules
+returns-in_err-length c = search rules
 
 pub returns : goal.returns
 unfolding after name_format

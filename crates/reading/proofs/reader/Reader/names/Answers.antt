@@ -10,9 +10,9 @@ pub loop-i-init : goal.loop-i-init
 loop-i-init c =
     (row-none name_format.reads c.args.self.now, omega (arith, name_start-none c.args.self.now.bytes.now (c.args.self.now.place / 8)), omega arith, laid_none c.args.self.now.bytes.now (c.args.self.now.place / 8))
 
-pub returns-in-err-name : goal.returns-in-err-name
-returns-in-err-name c =
-    record { reads = row-exit (omega arith) c.loop-i.invariant.0 c.name.ensures.reads c.in-err-name.was c.from-residual.ensures.1; places = search rules }
+pub returns-in_err-name : goal.returns-in_err-name
+returns-in_err-name c =
+    record { reads = row-exit (omega arith) c.loop-i.invariant.0 c.name.ensures.reads c.in_err-name.was c.from-residual.ensures.1; places = search rules }
 
 pub loop-i-preserved : goal.loop-i-preserved
 loop-i-preserved c =
@@ -24,13 +24,13 @@ loop-i-preserved c =
     let v : text_at c.loop-i.self.bytes.now (c.loop-i.self.place / 8) ≡ text_at bs (name_start bs a i) =
     ap (λ ys. text_at ys (c.loop-i.self.place / 8)) s ∙ ap (text_at bs) q in
     let w : length (text_at bs (name_start bs a i)) ≡ get_or bs (name_start bs a i) 0 =
-    subst (λ (ys : List ℕ). length (text_at ys (name_start bs a i)) ≡ get_or ys (name_start bs a i) 0) s (subst (λ (k : ℕ). length (text_at c.loop-i.self.bytes.now k) ≡ get_or c.loop-i.self.bytes.now k 0) q c.in-ok-name.ensures.whole) in
+    subst (λ (ys : List ℕ). length (text_at ys (name_start bs a i)) ≡ get_or ys (name_start bs a i) 0) s (subst (λ (k : ℕ). length (text_at c.loop-i.self.bytes.now k) ≡ get_or c.loop-i.self.bytes.now k 0) q c.in_ok-name.ensures.whole) in
     let e : texts_at bs a (i + 1) ≡ texts_at bs a i ++ text_at c.loop-i.self.bytes.now (c.loop-i.self.place / 8) ∷ [] =
     map-range_with_len_more (λ k. text_at bs (name_start bs a k)) 0 i i (omega arith) ∙ ap (λ y. texts_at bs a i ++ y ∷ []) (sym v) in
     let n : next_name c.loop-i.self.bytes.now (c.loop-i.self.place / 8) ≡ name_start bs a (i + 1) =
     ap (λ ys. next_name ys (c.loop-i.self.place / 8)) s ∙ ap (next_name bs) q ∙ sym (name_start-more bs a i) in (
-      subst (λ (ys : List (List ℕ)). Row name_format.reads (i + 1) ys c.args.self.now c.name.new.self) (sym e) (row_more c.loop-i.invariant.0 c.name.ensures.reads c.in-ok-name.was),
-      c.in-ok-name.ensures.size ∙ ap (λ k. 8 * k) n,
+      subst (λ (ys : List (List ℕ)). Row name_format.reads (i + 1) ys c.args.self.now c.name.new.self) (sym e) (row_more c.loop-i.invariant.0 c.name.ensures.reads c.in_ok-name.was),
+      c.in_ok-name.ensures.size ∙ ap (λ k. 8 * k) n,
       omega arith,
       laid_more bs a i c.loop-i.invariant.3 w,
     )

@@ -10,8 +10,8 @@ returns c =
     let p = c.args.self.now.place in
     let w = c.args.width in
     let r = 24 - p % 8 - w in
-    let m = masked (c.from-be-bytes-window.result / 2 ^ r) w (omega arith) in
+    let m = masked (c.from_be_bytes-window.result / 2 ^ r) w (omega arith) in
     let e = number-window bs p w r c.byte.result c.byte-2.result c.byte-3.result (omega arith) c.byte.ensures c.byte-2.ensures c.byte-3.ensures (omega arith) (omega arith) (omega arith) in
-    let f : c.from-be-bytes-window.result ≡ c.byte.result * 65536 + c.byte-2.result * 256 + c.byte-3.result = omega arith in
-    let v : bit_and (c.from-be-bytes-window.result / 2 ^ r) (1 * 2 ^ w % 4294967296 - 1) ≡ number bs p w = m ∙ rw f (sym e) in
+    let f : c.from_be_bytes-window.result ≡ c.byte.result * 65536 + c.byte-2.result * 256 + c.byte-3.result = omega arith in
+    let v : bit_and (c.from_be_bytes-window.result / 2 ^ r) (1 * 2 ^ w % 4294967296 - 1) ≡ number bs p w = m ∙ rw f (sym e) in
     record { value = v; bound = rw v (number-below bs p w) }

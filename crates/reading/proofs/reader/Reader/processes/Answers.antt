@@ -15,9 +15,9 @@ use Rattle.table.specs.Lists.{Proc, meant}
 pub loop-i-init : goal.loop-i-init
 loop-i-init c = (row-none process_format.reads c.args.self.now, omega (arith, processes_bits-none), omega arith, search rules)
 
-pub returns-in-err-process : goal.returns-in-err-process
-returns-in-err-process c = record {
-  reads = row-exit (omega arith) c.loop-i.invariant.0 c.process.ensures.reads c.in-err-process.was c.from-residual.ensures.1;
+pub returns-in_err-process : goal.returns-in_err-process
+returns-in_err-process c = record {
+  reads = row-exit (omega arith) c.loop-i.invariant.0 c.process.ensures.reads c.in_err-process.was c.from-residual.ensures.1;
   size = search rules;
   bound = omega arith;
 }
@@ -27,14 +27,14 @@ loop-i-preserved c =
     let bs = c.args.self.now.bytes.now in
     let i = c.loop-i.i in
     let p = c.loop-i.self.place in
-    let x = meant c.in-ok-process.field-0 in
+    let x = meant c.in_ok-process.field-0 in
     let before = processes_from bs (take i c.loop-i.places) in
     let v : read_at process_format blank bs p ≡ x =
-    ap (λ a. value_or a blank) (read bs c.process.ensures.reads c.in-ok-process.was c.loop-i.invariant.0.same) in
+    ap (λ a. value_or a blank) (read bs c.process.ensures.reads c.in_ok-process.was c.loop-i.invariant.0.same) in
     let e : processes_from bs (take (i + 1) (set c.loop-i.places i p)) ≡ before ++ x ∷ [] =
     ap (processes_from bs) (take_more_set c.loop-i.places i p (omega arith)) ∙ map_push (λ q. read_at process_format blank bs q) (take i c.loop-i.places) p ∙ ap (λ y. before ++ y ∷ []) v in (
-      subst (λ (ys : List Proc). Row process_format.reads (i + 1) ys c.args.self.now c.process.new.self) (sym e) (row_more c.loop-i.invariant.0 c.process.ensures.reads c.in-ok-process.was),
-      omega (arith, ap processes_bits e, processes_bits-push before x, c.in-ok-process.ensures.size),
+      subst (λ (ys : List Proc). Row process_format.reads (i + 1) ys c.args.self.now c.process.new.self) (sym e) (row_more c.loop-i.invariant.0 c.process.ensures.reads c.in_ok-process.was),
+      omega (arith, ap processes_bits e, processes_bits-push before x, c.in_ok-process.ensures.size),
       omega arith,
       length-set c.loop-i.places i p ∙ c.loop-i.invariant.3,
     )

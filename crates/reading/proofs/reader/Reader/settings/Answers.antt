@@ -7,19 +7,19 @@ use Rattle.reading.proofs.reader.Reader.settings.Goals as goal
 pub loop-i-init : goal.loop-i-init
 loop-i-init c = (row-none timer_format.reads c.args.self.now, omega arith, c.told-settings)
 
-pub returns-in-err-settings : goal.returns-in-err-settings
-returns-in-err-settings c = record {
-  reads = row-exit (omega arith) c.loop-i.invariant.0 c.timer.ensures.reads c.in-err-settings.was c.from-residual.ensures.1;
+pub returns-in_err-settings : goal.returns-in_err-settings
+returns-in_err-settings c = record {
+  reads = row-exit (omega arith) c.loop-i.invariant.0 c.timer.ensures.reads c.in_err-settings.was c.from-residual.ensures.1;
   moves = search rules;
 }
 
 pub loop-i-preserved : goal.loop-i-preserved
 loop-i-preserved c =
-    let x = c.in-ok-settings.field-0 in
+    let x = c.in_ok-settings.field-0 in
     let i = c.loop-i.i in
     let xs = c.loop-i.settings in (
-      subst (λ ys. Row timer_format.reads (i + 1) ys c.args.self.now c.timer.new.self) (sym (take_more_set xs i x (omega arith))) (row_more c.loop-i.invariant.0 c.timer.ensures.reads c.in-ok-settings.was),
-      omega (arith, c.in-ok-settings.ensures.moves),
+      subst (λ ys. Row timer_format.reads (i + 1) ys c.args.self.now c.timer.new.self) (sym (take_more_set xs i x (omega arith))) (row_more c.loop-i.invariant.0 c.timer.ensures.reads c.in_ok-settings.was),
+      omega (arith, c.in_ok-settings.ensures.moves),
       length-set xs i x ∙ c.loop-i.invariant.2,
     )
 

@@ -8,16 +8,16 @@ use Rattle.reading.proofs.reader.Reader.signals.Goals as goal
 pub loop-i-init : goal.loop-i-init
 loop-i-init c = (row-none (signal_format c.args.processes).reads c.args.self.now, omega arith)
 
-pub returns-in-err-signal : goal.returns-in-err-signal
-returns-in-err-signal c = record {
-  reads = row-exit (omega arith) c.loop-i.invariant.0 c.signal.ensures.reads c.in-err-signal.was c.from-residual.ensures.1;
+pub returns-in_err-signal : goal.returns-in_err-signal
+returns-in_err-signal c = record {
+  reads = row-exit (omega arith) c.loop-i.invariant.0 c.signal.ensures.reads c.in_err-signal.was c.from-residual.ensures.1;
   moves = search rules;
 }
 
 pub loop-i-preserved : goal.loop-i-preserved
 loop-i-preserved c = (
-  row_next (signal_format c.args.processes) absent 6 c.loop-i.invariant.0 c.loop-i.invariant.1 c.signal.ensures.reads c.in-ok-signal.was,
-  omega (arith, c.in-ok-signal.ensures.moves),
+  row_next (signal_format c.args.processes) absent 6 c.loop-i.invariant.0 c.loop-i.invariant.1 c.signal.ensures.reads c.in_ok-signal.was,
+  omega (arith, c.in_ok-signal.ensures.moves),
 )
 
 pub returns : goal.returns

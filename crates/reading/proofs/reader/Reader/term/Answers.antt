@@ -3,13 +3,13 @@ use Rattle.reading.specs.Formats.{after}
 use Rattle.reading.specs.Layout.{term_format}
 use Rattle.reading.proofs.reader.Reader.term.Goals as goal
 
-pub returns-in-err-operation : goal.returns-in-err-operation
+pub returns-in_err-operation : goal.returns-in_err-operation
 unfolding after term_format
-returns-in-err-operation c = search rules
+returns-in_err-operation c = search rules
 
-pub returns-in-err-argument : goal.returns-in-err-argument
+pub returns-in_err-argument : goal.returns-in_err-argument
 unfolding after term_format
-returns-in-err-argument c = search rules
+returns-in_err-argument c = search rules
 
 pub returns : goal.returns
 unfolding after term_format

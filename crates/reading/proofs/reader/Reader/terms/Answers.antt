@@ -8,16 +8,16 @@ use Rattle.reading.proofs.reader.Reader.terms.Goals as goal
 pub loop-i-init : goal.loop-i-init
 loop-i-init c = (row-none term_format.reads c.args.self.now, omega arith)
 
-pub returns-in-err-term : goal.returns-in-err-term
-returns-in-err-term c = record {
-  reads = row-exit (omega arith) c.loop-i.invariant.0 c.term.ensures.reads c.in-err-term.was c.from-residual.ensures.1;
+pub returns-in_err-term : goal.returns-in_err-term
+returns-in_err-term c = record {
+  reads = row-exit (omega arith) c.loop-i.invariant.0 c.term.ensures.reads c.in_err-term.was c.from-residual.ensures.1;
   moves = search rules;
 }
 
 pub loop-i-preserved : goal.loop-i-preserved
 loop-i-preserved c = (
-  row_next (term_format) no_term 20 c.loop-i.invariant.0 c.loop-i.invariant.1 c.term.ensures.reads c.in-ok-term.was,
-  omega (arith, c.in-ok-term.ensures.moves),
+  row_next (term_format) no_term 20 c.loop-i.invariant.0 c.loop-i.invariant.1 c.term.ensures.reads c.in_ok-term.was,
+  omega (arith, c.in_ok-term.ensures.moves),
 )
 
 pub returns : goal.returns

@@ -13,5 +13,5 @@ returns-then-k-from c =
 pub returns : goal.returns
 unfolding lists_of
 returns c =
-    ap Some c.edge-here.ensures ∙
+    ap Some c.edge_here.ensures ∙
     sym (nth-row (edge_format) no_edge c.args.self.now.bytes.now c.args.self.now.edges_at 60 c.args.self.now.counts.edges c.args.k (omega arith))

@@ -31,7 +31,7 @@ returns c =
     record {
       test = sym (lt-ltb c.args.p (length ps) h);
       value =
-          ap meant c.unwrap-or.ensures ∙
+          ap meant c.unwrap_or.ensures ∙
           read-or _ c.process.ensures.reads ∙
           sym (get_or-processes s.bytes.now s.places s.counts.processes c.args.p (meant c.args.place.now) (omega arith) (omega arith));
       same = tt;

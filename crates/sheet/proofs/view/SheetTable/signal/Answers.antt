@@ -13,5 +13,5 @@ returns-then-s-from c =
 pub returns : goal.returns
 unfolding lists_of
 returns c =
-    ap Some (c.unwrap-or.ensures ∙ read-or absent c.signal-signal.ensures.reads) ∙
+    ap Some (c.unwrap_or.ensures ∙ read-or absent c.signal-signal.ensures.reads) ∙
     sym (nth-row (signal_format c.args.self.now.counts.processes) absent c.args.self.now.bytes.now c.args.self.now.signals_at 6 c.args.self.now.counts.signals c.args.s (omega arith))

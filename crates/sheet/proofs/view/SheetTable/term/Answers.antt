@@ -23,7 +23,7 @@ pub returns : goal.returns
 unfolding lists_of
 returns c = record {
   value =
-      ap Some (c.unwrap-or.ensures ∙ read-or no_term c.term.ensures.reads) ∙
+      ap Some (c.unwrap_or.ensures ∙ read-or no_term c.term.ensures.reads) ∙
       sym (nth-row term_format no_term c.args.self.now.bytes.now c.args.self.now.terms_at 20 c.args.self.now.counts.terms c.args.i (omega arith));
-  bound = subst (λ (t : Term). t.operation ≤ 15) (sym c.unwrap-or.ensures) (or-below c.term.result c.term.ensures.fits);
+  bound = subst (λ (t : Term). t.operation ≤ 15) (sym c.unwrap_or.ensures) (or-below c.term.result c.term.ensures.fits);
 }
