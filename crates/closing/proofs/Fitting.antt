@@ -1,16 +1,16 @@
 -- By its plan, a table that passes the examination is closed just as the rules say.
-use Rattle.std.proofs.Common.{◌≡◌, ℕ, zero, suc, ◌+◌, ◌-◌, ◌<◌, ◌≤◌, min, Bool, true, false, cond, not, ◌&&◌, eqb, ltb, leb, ◌⊎◌, List, [], ◌∷◌, ◌++◌, map, length, get_or, take, is_some, is_ok, Some, None, Ok, Err, Option, Result, sym, refl, ap, ◌∙◌, subst, inl, inr, ⊎_elim, zero-add, arith}
+use Rattle.std.proofs.Common.{◌≡◌, ℕ, zero, suc, ◌+◌, ◌<◌, ◌≤◌, min, Bool, true, false, cond, not, ◌&&◌, ltb, leb, List, [], ◌∷◌, ◌++◌, map, length, get_or, is_some, is_ok, Some, None, Ok, Err, Option, Result, sym, refl, ap, ◌∙◌, subst, inl, inr, ⊎_elim, zero-add, arith}
 use Rattle.std.proofs.lemmas.List.{take_all, get_or_default}
-use Rattle.std.proofs.lemmas.Bool.{cases_Bool, both_ways, and_parts, and_from, and_cases, and_left, or_parts, cond-true, cond-false, lt-ltb, le-leb, leb-false, leb-true, ltb-false}
+use Rattle.std.proofs.lemmas.Bool.{both_ways, and_from, and_cases, and_left, cond-true, cond-false, lt-ltb, le-leb, leb-false, ltb-false}
 use Rattle.std.proofs.lemmas.Bool.Decides.{nat_tests}
 use Rattle.std.specs.List.{range_with_len, flat_map}
 use Rattle.std.specs.Option.{option_or, option_map}
 use Rattle.closing.specs.Faults.{testing}
-use Rattle.closing.specs.Layers.{marks_in, timers_in, fate_in, freed_as_in, freed_in, edge_in, process_in, loops_in, closed_in, layered}
-use Rattle.closing.specs.Plans.{Planned, ninth_in, timers_refused_in, count_in, count_refused_in, room_refused, test_refused_in}
+use Rattle.closing.specs.Layers.{timers_in, fate_in, freed_as_in, freed_in, edge_in, process_in, loops_in, closed_in, layered}
+use Rattle.closing.specs.Plans.{Planned, ninth_in, count_in, count_refused_in, room_refused, test_refused_in}
 use Rattle.closing.specs.declared.fault.TestFault.{TestFault}
 use Rattle.closing.specs.declared.plan.Plan.{Plan}
-use Rattle.loops.specs.Rows.{loop_edge, Holds, timer_edges, chaos_edges, spot_timers, at_spot, shape, of_process, added_by}
+use Rattle.loops.specs.Rows.{Holds, timer_edges, chaos_edges, spot_timers, at_spot, shape, of_process, added_by}
 use Rattle.marks.specs.Instances.{process_at}
 use Rattle.marks.specs.Rules.{Marking, Least, marked}
 use Rattle.marks.specs.Words.{bit}
@@ -19,14 +19,14 @@ use Rattle.rules.proofs.Examined.{Passed, passed, process-there}
 use Rattle.rules.proofs.Fates.{there-is}
 use Rattle.rules.proofs.Lists.{In, in-counting, first_from-all, none-some, none-parts, mapped-none, cond-none}
 use Rattle.rules.proofs.Promised.{tests, closes}
-use Rattle.rules.specs.Closing.{chaotic, with_chaos, closed_process, closed_signal, fate, freed, freed_as, changed, closed_edge, marked_guard, timer_loops, chaos_loops, added_at, added_to, added, closed, closed_by, closed_count, ninth, test_at, timers_refused, count_refused, test_refused}
+use Rattle.rules.specs.Closing.{chaotic, with_chaos, closed_process, closed_signal, fate, freed, freed_as, changed, closed_edge, timer_loops, chaos_loops, added_at, added_to, added, closed, closed_by, closed_count, ninth, test_at, timers_refused, count_refused, test_refused}
 use Rattle.rules.specs.Promise.{Marked, Tests, Closes}
 use Rattle.rules.specs.States.{numbered}
 use Rattle.rules.specs.Steps.{answer}
-use Rattle.survey.specs.Surveys.{spot_at, chaotic_at, Surveyed}
+use Rattle.survey.specs.Surveys.{spot_at, chaotic_at}
 use Rattle.table.specs.Edges.{blank, proc_at}
 use Rattle.table.specs.Examination.{first_from, acts, some, examined}
-use Rattle.table.specs.Lists.{Lists, Proc}
+use Rattle.table.specs.Lists.{Lists}
 use Rattle.table.specs.Records.{kind_of, mode_of}
 use Rattle.table.specs.declared.record.Edge.{Edge}
 use Rattle.table.specs.declared.record.Mode.{Mode}

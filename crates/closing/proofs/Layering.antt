@@ -1,5 +1,5 @@
 -- The lists that a layer means, place by place.
-use Rattle.std.proofs.Common.{◌≡◌, ℕ, zero, suc, ◌+◌, ◌-◌, ◌<◌, ◌≤◌, min, Bool, true, false, cond, ◌&&◌, ltb, leb, List, [], ◌∷◌, ◌++◌, map, length, get_or, take, set, replicate, Some, None, Option, sym, refl, ap, ◌∙◌, subst, suc-le-suc, zero-add, arith}
+use Rattle.std.proofs.Common.{◌≡◌, ℕ, zero, suc, ◌+◌, ◌-◌, ◌<◌, ◌≤◌, min, Bool, true, false, cond, ◌&&◌, ltb, leb, List, [], ◌∷◌, ◌++◌, map, length, get_or, take, set, replicate, Some, None, sym, refl, ap, ◌∙◌, subst, suc-le-suc, zero-add, arith}
 use Rattle.std.proofs.lemmas.List.{length-map, length-append, length-take, length-take-le, get_or_past, take_at, take_more_set}
 use Rattle.std.proofs.lemmas.Bool.{cond-true, cond-false, and_from, lt-ltb}
 use Rattle.std.specs.List.{slice_get}
@@ -9,7 +9,7 @@ use Rattle.closing.specs.declared.plan.Plan.{Plan}
 use Rattle.rules.proofs.Lists.{length-numbered, get_d_numbered}
 use Rattle.loops.specs.Rows.{loop_edge}
 use Rattle.rules.specs.Closing.{closed_signal, with_chaos}
-use Rattle.rules.specs.States.{numbered, padded}
+use Rattle.rules.specs.States.{padded}
 use Rattle.survey.specs.Surveys.{chaotic_at}
 use Rattle.table.specs.Lists.{Lists, Proc, meant}
 use Rattle.table.specs.declared.record.Edge.{Edge}

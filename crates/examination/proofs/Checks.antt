@@ -1,7 +1,7 @@
 -- The four tests of an edge, made on what the questions answered, decide its fault.
-use Rattle.std.proofs.Common.{◌≡◌, ℕ, zero, suc, Bool, true, false, cond, List, [], ◌∷◌, length, get_or, Some, None, Option, unwrap_or, sym, refl, ap, ◌∙◌}
+use Rattle.std.proofs.Common.{◌≡◌, ℕ, zero, suc, Bool, true, false, List, [], ◌∷◌, length, get_or, Some, None, Option, unwrap_or, refl, ◌∙◌}
 use Rattle.std.specs.List.{slice_get}
-use Rattle.table.specs.Edges.{edge_fault, proc_at, absent, missing, missing_in, unfit, unfit_for, malformed, untrue, untrue_in}
+use Rattle.table.specs.Edges.{edge_fault, proc_at, absent, missing_in, unfit_for, malformed, untrue_in}
 use Rattle.table.specs.Lists.{Lists, Proc}
 use Rattle.table.specs.Records.{kind_of}
 use Rattle.refusal.specs.Refusals.{first}

@@ -1,12 +1,11 @@
 -- In a table within its limits, the flags of locations decide the two tests of a location.
-use Rattle.std.proofs.Common.{◌≡◌, ℕ, zero, suc, ◌+◌, ◌<◌, ◌≤◌, Bool, true, false, cond, not, ◌&&◌, ◌||◌, ltb, leb, List, [], ◌∷◌, length, Some, None, Option, sym, refl, ap, ◌∙◌, arith}
+use Rattle.std.proofs.Common.{◌≡◌, ℕ, zero, suc, ◌<◌, ◌≤◌, Bool, true, false, cond, not, ◌&&◌, ◌||◌, ltb, leb, List, [], ◌∷◌, length, Some, None, refl, arith}
 use Rattle.std.specs.List.{slice_get}
 use Rattle.std.proofs.lemmas.Bool.{ltb-false, leb-true, or_parts, and_parts, not-false}
 use Rattle.table.specs.Examination.{acts, waits, frees, mixed, stuck, bad_process, too_many, limited, limits_refused, lists_refused, processes_refused, signals_refused, first_location, too_long}
 use Rattle.table.specs.Expressions.{any}
 use Rattle.table.specs.Lists.{Lists, Proc}
 use Rattle.examination.specs.Locations.{flagged, agree, has_at}
-use Rattle.refusal.specs.Refusals.{refusal}
 use Rattle.examination.proofs.Nearest.{location-cong, first_passes, passes-parts}
 use Rattle.examination.proofs.Raised.{Raised}
 

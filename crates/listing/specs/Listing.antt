@@ -11,7 +11,7 @@
 --   MarkedOf o T M       the sheet was opened as o: T is its table, and M are the least marks of that
 --   Judged bs j          the view and marks j are of the sheet bs
 --   Listed bs text       text says why the sheet bs is refused, or else lists the least marks of its table
-use Rattle.std.specs.Prelude.{◌≡◌, ℕ, zero, suc, ◌+◌, Bool, cond, List, [], ◌∷◌, ◌++◌, length, take, Some, None, Ok, Err, codes, decimal, sum_by, Option, Result, slice_index_or}
+use Rattle.std.specs.Prelude.{◌≡◌, ℕ, zero, suc, ◌+◌, Bool, cond, List, [], ◌++◌, length, take, Some, None, Ok, Err, codes, decimal, sum_by, Option, Result, slice_index_or}
 use Rattle.listing.specs.declared.lines.Sort.{Sort}
 use Rattle.listing.specs.declared.lines.Sort.TheVariants.{Variable, Timer}
 use Rattle.marks.specs.Instances.{of_process}

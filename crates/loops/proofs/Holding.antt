@@ -1,5 +1,5 @@
 -- What a row holds after one more loop, and how it follows loops over timers, locations and processes.
-use Rattle.std.proofs.Common.{◌≡◌, ℕ, zero, suc, ◌+◌, ◌<◌, ◌≤◌, min, Bool, true, false, cond, List, [], ◌∷◌, ◌++◌, map, length, get_or, take, set, sym, refl, ap, ◌∙◌, subst, ⊎_elim, zero-add, add-one, arith}
+use Rattle.std.proofs.Common.{◌≡◌, ℕ, zero, suc, ◌+◌, ◌<◌, ◌≤◌, min, Bool, true, false, cond, List, [], ◌∷◌, ◌++◌, map, length, get_or, take, set, sym, ap, ◌∙◌, subst, zero-add, add-one, arith}
 use Rattle.std.proofs.lemmas.List.{append-nil, append_assoc, length_push, take_all, take_more_set, map_push, take-append-le}
 use Rattle.std.specs.List.{range_with_len, flat_map}
 use Rattle.loops.specs.Rows.{loop_edge, Holds, timer_edges, chaos_edges, spot_timers, at_spot, Shape, shape, of_process, added_by}

@@ -14,7 +14,7 @@ use Rattle.std.specs.List.{range_with_len, flat_map}
 use Rattle.loops.specs.declared.row.Loop.{Loop}
 use Rattle.marks.specs.Rules.{Marking}
 use Rattle.marks.specs.Words.{bit}
-use Rattle.rules.specs.Closing.{loop, rearm, timeout}
+use Rattle.rules.specs.Closing.{rearm, timeout}
 use Rattle.survey.specs.Surveys.{spot_at, chaotic_at}
 use Rattle.survey.specs.declared.spots.Spot.{Spot}
 use Rattle.table.specs.Edges.{blank}

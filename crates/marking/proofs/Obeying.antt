@@ -12,7 +12,7 @@ use Rattle.table.specs.declared.record.Class.TheVariants.{Internal, Inbound, Out
 use Rattle.table.specs.declared.record.Edge.{Edge}
 use Rattle.table.specs.declared.record.Kind.{Kind}
 use Rattle.table.specs.declared.record.Kind.TheVariants.{Input, Output, Assignment, Set, Reset, Timeout, Rearm, Skip, Unknown}
-use Rattle.marking.specs.Leads.{received, touches, is_internal, is_inbound, seeds, leads}
+use Rattle.marking.specs.Leads.{touches, is_internal, is_inbound, seeds, leads}
 use Rattle.marking.specs.Nodes.{node, has}
 use Rattle.marks.specs.Rules.{Marking, Obeys, EdgeObeys, marked, signal_marked, class_at, arrives, arrives_as}
 use Rattle.marks.specs.Words.{marks_in}

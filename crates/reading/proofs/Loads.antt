@@ -1,11 +1,11 @@
 -- The fields of an edge, out of the number that its 60 bits write.
-use Rattle.std.proofs.Common.{◌≡◌, ℕ, ◌+◌, ◌-◌, ◌*◌, ◌/◌, ◌%◌, ◌^◌, ◌<◌, ◌≤◌, true, cond, ◌&&◌, leb, List, length, get_or, sym, refl, ap, ◌∙◌, arith, pow_mono}
+use Rattle.std.proofs.Common.{◌≡◌, ℕ, ◌+◌, ◌-◌, ◌*◌, ◌/◌, ◌%◌, ◌^◌, ◌<◌, ◌≤◌, true, ◌&&◌, leb, List, length, get_or, sym, refl, ap, ◌∙◌, arith, pow_mono}
 use Rattle.std.proofs.lemmas.Bool.{le-leb, and_from, cond-true}
 use Rattle.reading.proofs.Chains.{after-got}
 use Rattle.reading.proofs.Numbers.{number-below, number-part, number-byte, number-bytes}
-use Rattle.reading.specs.Formats.{got, after, taken, number}
+use Rattle.reading.specs.Formats.{got, taken, number}
 use Rattle.reading.specs.Layout.{edge_format, span_format}
-use Rattle.reading.specs.Readings.{read_at, value_or}
+use Rattle.reading.specs.Readings.{read_at}
 use Rattle.reading.specs.Rows.{no_edge}
 use Rattle.table.specs.declared.record.Edge.{Edge}
 use Rattle.refusal.specs.declared.fault.Refusal.{Refusal}

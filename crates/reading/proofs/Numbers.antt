@@ -1,8 +1,8 @@
 -- The number of a row of bits: its parts, and the bytes that hold it.
-use Rattle.std.proofs.Common.{◌≡◌, ℕ, zero, suc, ◌+◌, ◌-◌, ◌*◌, ◌/◌, ◌%◌, ◌^◌, ◌<◌, ◌≤◌, List, length, get_or, sym, refl, ap, ◌∙◌, mul_assoc, mul_comm, add-one, arith}
+use Rattle.std.proofs.Common.{◌≡◌, ℕ, zero, suc, ◌+◌, ◌-◌, ◌*◌, ◌/◌, ◌%◌, ◌^◌, ◌<◌, ◌≤◌, List, get_or, sym, refl, ap, ◌∙◌, mul_assoc, mul_comm, arith}
 use native.Mathlib.Nat.{pow-succ'}
 use lib.Bits.{bit_and}
-use Rattle.std.proofs.lemmas.Nat.{shr-shr, shr_high, mod_low, pow_pos, pow_below, mod_below, one_shl, and_mask}
+use Rattle.std.proofs.lemmas.Nat.{shr-shr, shr_high, mod_low, mod_below, one_shl, and_mask}
 use Rattle.reading.specs.Formats.{bit, number}
 
 pub number-none : (bs : List ℕ) (p : ℕ) → number bs p 0 ≡ 0

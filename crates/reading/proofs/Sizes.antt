@@ -1,5 +1,5 @@
 -- How many bits the processes take.
-use Rattle.std.proofs.Common.{◌≡◌, ℕ, ◌+◌, List, [], ◌∷◌, ◌++◌, refl, ap, ◌∙◌, arith}
+use Rattle.std.proofs.Common.{◌≡◌, ◌+◌, List, [], ◌∷◌, ◌++◌, refl, arith}
 use Rattle.reading.specs.Opening.{process_bits, processes_bits}
 use Rattle.table.specs.Lists.{Proc}
 

@@ -1,11 +1,11 @@
 -- What a view's lists have at a place.
-use Rattle.std.proofs.Common.{◌≡◌, ℕ, ◌+◌, ◌*◌, ◌<◌, ◌≤◌, min, List, map, length, get_or, take, Some, None, Ok, Err, Result, sym, refl, ap, ◌∙◌, arith, length-take}
+use Rattle.std.proofs.Common.{◌≡◌, ℕ, ◌+◌, ◌*◌, ◌<◌, ◌≤◌, min, List, length, get_or, take, Some, None, Ok, Err, Result, ap, ◌∙◌, arith, length-take}
 use Rattle.std.proofs.lemmas.List.FromFn.{length-map-range_with_len, get_or-map-range_with_len}
 use Rattle.std.proofs.lemmas.List.{length-map, get_or-map, get_or-take}
 use Rattle.std.proofs.lemmas.Option.{slice_get-get_or, slice_get_past}
 use Rattle.std.specs.List.{slice_get}
 use Rattle.std.specs.Result as results
-use Rattle.reading.specs.Formats.{Answer, Format, got, bad}
+use Rattle.reading.specs.Formats.{Answer, Format}
 use Rattle.reading.specs.Layout.{process_format}
 use Rattle.reading.specs.Readings.{Reads, told, value_or, read_at, row_at}
 use Rattle.reading.specs.Rows.{processes_from}

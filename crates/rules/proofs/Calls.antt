@@ -1,31 +1,24 @@
 -- Calls that are accepted of the open table, but for the tick: the steps that match them are accepted of the closed one, and both
 -- lead to worlds alike.
-use Rattle.std.proofs.Common.{◌≡◌, ℕ, suc, ◌+◌, ◌<◌, ◌≤◌, Bool, true, false, cond, not, ◌&&◌, ◌||◌, eqb, ltb, leb, ◌⊎◌, List, [], ◌∷◌, ◌++◌, length, get_or, drop, set, ℤ, pos, is_some, Some, None, Option, sym, refl, ap, ◌∙◌, subst, inl, inr, ⊎_elim, zero-add, arith}
-use Rattle.std.proofs.lemmas.List.{get_or_past, get_or-set_same, get_or-set_other, length-set, get_or_default}
-use Rattle.std.proofs.lemmas.Option.{slice_get-get_or}
-use Rattle.std.proofs.lemmas.Bool.{cases_Bool, cases_eq, cases_lt, both_ways, and_parts, and_from, and_cases, and_left, and_right, or_from, eqb-true, eqb-false, eq-eqb, ne_eqb, not-true, not-false, not_from_true, not_from_false, cond-true, cond-false, lt-leb, leb-true, leb-false}
-use Rattle.std.proofs.lemmas.Bool.Decides.{nat_tests}
-use Rattle.std.specs.Option.{option_or}
-use Rattle.std.specs.List.{filter}
+use Rattle.std.proofs.Common.{◌≡◌, ℕ, ◌<◌, Bool, true, false, cond, not, ◌&&◌, ◌||◌, eqb, leb, ◌⊎◌, [], ◌∷◌, length, get_or, is_some, Some, None, sym, refl, ap, ◌∙◌, subst, inl, inr, ⊎_elim, zero-add, arith}
+use Rattle.std.proofs.lemmas.List.{get_or_past, get_or_default}
+use Rattle.std.proofs.lemmas.Bool.{cases_lt, both_ways, and_parts, and_from, and_cases, and_left, and_right, or_from, eqb-true, eq-eqb, cond-true, cond-false, lt-leb, leb-false}
 use Rattle.marks.specs.Instances.{process_at}
-use Rattle.marks.specs.Rules.{Marking, Obeys, EdgeObeys, marked, signal_marked, is_output, class_at}
+use Rattle.marks.specs.Rules.{Marking, EdgeObeys, marked, is_output, class_at}
 use Rattle.refusal.specs.Refusals.{first}
-use Rattle.refusal.specs.declared.fault.Refusal.{Refusal}
-use Rattle.rules.proofs.Closed.{closed-length, closed-locations, closed-timers-least, inside-closed, goal-closed, closed-edges-length, edge-closed, edge-added, some-closed, in-added, Added, Loop, of_chaos, of_timeout, of_rearm, timeout-added}
-use Rattle.rules.proofs.Examined.{Passed, good, process-there, closed-good, limits-pass, edge-stays-sound, closed-sound, leaves-closed, waiting-closed}
-use Rattle.rules.proofs.Fates.{Sound, There, Names, kind_then, kind-under, takes-then, handles-then, edge-sound, sound-edge}
-use Rattle.rules.proofs.Lists.{In, in-get_or, any-in, none_in, in-none, none-some, none-parts, parts_none, is_some-none, first-none, none_first, first_at-all, all-first_at, position-finds}
-use Rattle.rules.proofs.Moves.{inbound-not-inside, standin-due, twin-due, take_inner, take-outer, there, ready-closed, moved-closed, sent-same, value_stays}
-use Rattle.rules.proofs.Twins.{Standin, TimerTwin, MessageTwin, Messages, Eight, Twin, Alike, at-put, alike-put, alike-open, alike-closed, kept_in, kept_out, push-inner, push-outer, queue-length}
-use Rattle.rules.specs.Closing.{Fate, fate_as, fate, first_under, chaotic, closed_edge, closed, added, timeout, rearm, test_refused, invites}
-use Rattle.rules.specs.Matching.{inside, same_edge, same_span, position, number_of, head_inside}
-use Rattle.rules.specs.States.{Running, World, idle, at, lacking, is_inbound, is_internal, is_outbound, goal, due, waiting, takes_signal, handles}
-use Rattle.rules.specs.Steps.{edge_at, no_edge, scope, value_in, head_is, kind_ready, allowed, ready, enabled, sends, full, moved, put, message, received, deliver, edge_value, moved_along, move_effect, effect, dropped, expired, untaken, discards, expires, state_at, misplaced, unlike, state_refused, offer_tests, move_tests, discard_tests, expire_tests, call_refused, step_refused}
+use Rattle.rules.proofs.Closed.{closed-length, closed-locations, inside-closed, goal-closed}
+use Rattle.rules.proofs.Examined.{good, process-there, closed-good, limits-pass, edge-stays-sound}
+use Rattle.rules.proofs.Fates.{kind_then, kind-under, edge-sound}
+use Rattle.rules.proofs.Lists.{In, parts_none, none_first, all-first_at}
+use Rattle.rules.proofs.Moves.{ready-closed, moved-closed, sent-same, value_stays}
+use Rattle.rules.proofs.Twins.{MessageTwin, Twin, Alike, alike-put, alike-open, push-inner, push-outer, queue-length}
+use Rattle.rules.specs.Closing.{fate_as, fate, first_under, closed_edge, closed, test_refused}
+use Rattle.rules.specs.Matching.{inside}
+use Rattle.rules.specs.States.{Running, World, idle, at, lacking, is_inbound, is_internal, is_outbound, goal}
+use Rattle.rules.specs.Steps.{scope, kind_ready, allowed, ready, enabled, sends, full, moved, message, received, deliver, edge_value, moved_along, move_effect, state_at, misplaced, unlike, state_refused, move_tests}
 use Rattle.rules.specs.declared.step.Message.{Message}
-use Rattle.rules.specs.declared.step.Step.{Step}
-use Rattle.rules.specs.declared.step.Step.TheVariants.{Offer, Move, Discard, Expire, Tick}
 use Rattle.table.specs.Edges.{absent, edge_fault}
-use Rattle.table.specs.Examination.{first_at, bad_signal, leaves, some, limits_refused}
+use Rattle.table.specs.Examination.{first_at, bad_signal, limits_refused}
 use Rattle.table.specs.Lists.{Lists}
 use Rattle.table.specs.Records.{kind_of, class_of}
 use Rattle.table.specs.declared.record.Class.{Class}
@@ -34,8 +27,6 @@ use Rattle.table.specs.declared.record.Edge.{Edge}
 use Rattle.table.specs.declared.record.Kind.{Kind}
 use Rattle.table.specs.declared.record.Kind.TheVariants.{Input, Output, Assignment, Set, Reset, Timeout, Rearm, Skip, Unknown}
 use Rattle.table.specs.declared.record.Signal.{Signal}
-use Rattle.table.specs.declared.record.Timer.{Timer}
-use Rattle.table.specs.declared.record.Timer.TheVariants.{Off, On}
 
 -- a destination that is used is there
 destined : (n : ℕ) (g : Signal) → bad_signal n g ≡ false → (is_internal (class_of g.class) ≡ true) ⊎ (is_inbound (class_of g.class) ≡ true) → g.destination < n

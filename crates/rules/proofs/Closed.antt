@@ -1,19 +1,19 @@
 -- The lists of a closed table, place by place.
-use Rattle.std.proofs.Common.{◌≡◌, ℕ, zero, suc, ◌+◌, ◌-◌, ◌<◌, ◌≤◌, Bool, true, false, cond, not, ◌&&◌, ◌||◌, eqb, ltb, leb, ◌⊎◌, List, [], ◌∷◌, ◌++◌, map, length, get_or, take, drop, sym, refl, ap, ◌∙◌, subst, inl, inr, ⊎_elim, zero-add, arith}
-use Rattle.std.proofs.lemmas.List.{length-map, length-append, get_or-map, get_or_append_left, get_or-append-add, get_or_past}
-use Rattle.std.proofs.lemmas.Bool.{cases_Bool, cases_lt, cond-true, cond-false, and_from, and_parts, both_ways, eqb-true, eq-eqb, ne_eqb}
+use Rattle.std.proofs.Common.{◌≡◌, ℕ, zero, suc, ◌+◌, ◌<◌, ◌≤◌, Bool, true, false, cond, ◌&&◌, ◌||◌, eqb, ◌⊎◌, List, [], ◌∷◌, ◌++◌, map, length, get_or, sym, refl, ap, ◌∙◌, subst, inl, inr, ⊎_elim, zero-add, arith}
+use Rattle.std.proofs.lemmas.List.{length-map, length-append, get_or-map, get_or_append_left, get_or-append-add}
+use Rattle.std.proofs.lemmas.Bool.{cases_Bool, cond-true, cond-false, and_parts, both_ways, eqb-true}
 use Rattle.std.specs.List.{range_with_len, flat_map}
 use Rattle.marks.specs.Instances.{process_at}
-use Rattle.marks.specs.Rules.{Marking, marked, class_at}
-use Rattle.rules.proofs.Lists.{In, in_left, in_right, in_parts, in-get_or, in_map, map-in, in-joined, joined_in, in-counting, counting-in, any-in, none_in, in-any, in-none, any_append, any-map, length-numbered, get_d_numbered}
-use Rattle.rules.specs.Closing.{chaotic, with_chaos, closed_process, closed_signal, closed_edge, rearm, timeout, timer_loops, chaos_loops, added_at, added_to, added, closed, invites}
-use Rattle.rules.specs.States.{is_inbound, is_internal, is_outbound, goal, waiting, handles, numbered}
+use Rattle.marks.specs.Rules.{Marking, class_at}
+use Rattle.rules.proofs.Lists.{In, in_left, in_right, in_parts, in_map, map-in, in-joined, joined_in, in-counting, counting-in, in-none, any_append, any-map, length-numbered, get_d_numbered}
+use Rattle.rules.specs.Closing.{chaotic, with_chaos, closed_process, closed_signal, closed_edge, rearm, timeout, timer_loops, chaos_loops, added_at, added_to, added, closed}
+use Rattle.rules.specs.States.{is_inbound, is_internal, is_outbound, goal, waiting, handles}
 use Rattle.rules.specs.Steps.{no_edge, edge_at}
 use Rattle.table.specs.Edges.{blank, absent}
 use Rattle.table.specs.Examination.{leaves, acts, some}
 use Rattle.table.specs.Expressions.{any}
 use Rattle.table.specs.Lists.{Lists, Proc}
-use Rattle.table.specs.Records.{kind_of, class_of}
+use Rattle.table.specs.Records.{class_of}
 use Rattle.table.specs.declared.record.Class.{Class}
 use Rattle.table.specs.declared.record.Class.TheVariants.{Internal, Inbound, Outbound, Absent}
 use Rattle.table.specs.declared.record.Edge.{Edge}

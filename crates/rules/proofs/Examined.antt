@@ -1,7 +1,7 @@
 -- A closed table passes the examination.
-use Rattle.std.proofs.Common.{◌≡◌, ℕ, zero, suc, ◌+◌, ◌<◌, ◌≤◌, Bool, true, false, cond, not, ◌&&◌, ◌||◌, eqb, ltb, leb, ◌⊎◌, List, [], ◌∷◌, ◌++◌, map, length, get_or, Some, None, Option, sym, refl, ap, ◌∙◌, subst, inl, inr, ⊎_elim, zero-add, arith}
+use Rattle.std.proofs.Common.{◌≡◌, ℕ, ◌+◌, ◌<◌, ◌≤◌, Bool, true, false, cond, not, ◌&&◌, ◌||◌, eqb, ltb, leb, ◌⊎◌, List, [], ◌∷◌, ◌++◌, length, get_or, None, sym, refl, ap, ◌∙◌, subst, inl, inr, ⊎_elim, zero-add, arith}
 use Rattle.std.proofs.lemmas.List.{length-map, get_or_past, get_or_default}
-use Rattle.std.proofs.lemmas.Bool.{cases_Bool, cases_lt, both_ways, and_parts, and_from, and_cases, and_left, and_right, or_parts, or_from, or_left, not-true, not-false, not_from_true, lt-ltb, le-ltb, ltb-false, eqb-true, eq-eqb}
+use Rattle.std.proofs.lemmas.Bool.{cases_lt, both_ways, and_parts, and_from, and_cases, and_left, and_right, or_parts, or_from, not-false, le-ltb, ltb-false, eqb-true, eq-eqb}
 use Rattle.std.proofs.lemmas.Bool.Decides.{nat_tests}
 use Rattle.std.specs.Option.{option_or, option_map}
 use Rattle.marks.specs.Instances.{process_at}
@@ -9,22 +9,19 @@ use Rattle.marks.specs.Rules.{Marking, marked, class_at}
 use Rattle.refusal.specs.Refusals.{refusal}
 use Rattle.refusal.specs.declared.fault.Layer.{Layer}
 use Rattle.refusal.specs.declared.fault.Place.{Place}
-use Rattle.rules.proofs.Closed.{Loop, of_chaos, of_timeout, of_rearm, Added, closed-length, process-closed, closed-locations, closed-variables, closed-timers-chaos, closed-timers-calm, closed-timers-least, signal-closed, signal-kept, closed-edges-length, in-closed, closed_in, some-closed, in-added, added-waits, none-added}
-use Rattle.rules.proofs.Fates.{kind_then, kind-under, acting-then, Names, There, there-is, is-there, names-then, unfit-then, form-then, untrue-then, Sound, sound-edge, edge-sound}
-use Rattle.rules.proofs.Lists.{In, in-get_or, in_all, any-in, in-any, none_in, in-none, any_append, any-padded, none-some, none-parts, parts_none, cond-none, mapped-none, first_at-all, all-first_at, first_from-all, all-first_from}
-use Rattle.rules.specs.Closing.{Fate, stays, waits, skipped, emptied, fate, fate_as, freed, chaotic, with_chaos, closed_process, closed_signal, closed_edge, kind_under, first_under, rearm, timeout, added, closed, invites, closed_count, ninth, test_at, timers_refused, count_refused, test_refused}
-use Rattle.rules.specs.States.{padded, is_inbound, is_internal, is_outbound, is_input, waiting}
-use Rattle.rules.specs.Steps.{no_edge, edge_at}
-use Rattle.table.specs.Edges.{blank, absent, proc_at, missing, unfit, unfit_for, malformed, numbers_bad, guard_bad, value_bad, untrue, untrue_in, edge_fault}
+use Rattle.rules.proofs.Closed.{Loop, of_chaos, of_timeout, of_rearm, closed-length, process-closed, closed-locations, closed-variables, closed-timers-chaos, closed-timers-least, signal-closed, signal-kept, closed-edges-length, in-closed, closed_in, some-closed, in-added, added-waits, none-added}
+use Rattle.rules.proofs.Fates.{kind_then, kind-under, acting-then, Names, there-is, is-there, names-then, unfit-then, form-then, untrue-then, Sound, sound-edge, edge-sound}
+use Rattle.rules.proofs.Lists.{In, in-get_or, in_all, any-in, in-any, any_append, any-padded, none-parts, parts_none, cond-none, mapped-none, first_at-all, all-first_at, first_from-all, all-first_from}
+use Rattle.rules.specs.Closing.{fate, freed, chaotic, with_chaos, closed_signal, closed_edge, first_under, rearm, timeout, added, closed, invites, closed_count, ninth, test_at, timers_refused, count_refused, test_refused}
+use Rattle.rules.specs.States.{padded, is_inbound, is_outbound, is_input, waiting}
+use Rattle.table.specs.Edges.{blank, absent, proc_at, untrue_in, edge_fault}
 use Rattle.table.specs.Examination.{too_long, bad_process, bad_signal, too_many, limited, edge_refused, leaves, acting, acts, frees, freely, some, mixed, stuck, location_in, first_location, location_refused, lists_refused, processes_refused, signals_refused, edges_refused, limits_refused, locations_refused, examined, first_at, first_from}
 use Rattle.table.specs.Examination as examination
 use Rattle.table.specs.Expressions.{any}
 use Rattle.table.specs.Lists.{Lists, Proc}
 use Rattle.table.specs.Records.{kind_of, class_of, mode_of}
 use Rattle.table.specs.declared.record.Edge.{Edge}
-use Rattle.table.specs.declared.record.Kind.{Kind}
 use Rattle.table.specs.declared.record.Kind.TheVariants.{Input, Timeout, Rearm}
-use Rattle.table.specs.declared.record.Mode.{Mode}
 use Rattle.table.specs.declared.record.Signal.{Signal}
 use Rattle.table.specs.declared.record.Timer.{Timer}
 use Rattle.table.specs.declared.record.Timer.TheVariants.{Off, On}

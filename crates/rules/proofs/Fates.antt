@@ -1,14 +1,12 @@
 -- What closing makes of one edge: its kind, the tests that it passes, and that it is as good as before.
-use Rattle.std.proofs.Common.{◌≡◌, ℕ, ◌+◌, ◌<◌, ◌≤◌, Bool, true, false, cond, not, ◌&&◌, ◌||◌, eqb, ltb, leb, ◌⊎◌, List, [], ◌∷◌, length, get_or, Some, None, Option, sym, refl, ap, ◌∙◌, subst, inl, inr, ⊎_elim, arith}
-use Rattle.std.proofs.lemmas.Bool.{cases_Bool, both_ways, and_parts, and_from, or_parts, or_from, eqb-true, eqb-false, ne_eqb, lt-leb, leb-false, not-true, not-false, cases_eq}
+use Rattle.std.proofs.Common.{◌≡◌, ℕ, ◌<◌, ◌≤◌, Bool, true, false, cond, not, ◌&&◌, ◌||◌, eqb, ltb, List, [], ◌∷◌, None, sym, refl, ap, ◌∙◌, ⊎_elim, arith}
+use Rattle.std.proofs.lemmas.Bool.{both_ways, and_parts, and_from, or_parts, or_from, not-false, cases_eq}
 use Rattle.std.proofs.lemmas.Bool.Decides.{nat_tests}
-use Rattle.refusal.specs.Refusals.{first}
 use Rattle.rules.proofs.Lists.{first-none, none_first}
 use Rattle.rules.specs.Closing.{Fate, stays, waits, skipped, emptied, fate_as, kind_under, first_under, second_under, value_under, no_span}
 use Rattle.rules.specs.States.{is_inbound, is_internal, is_outbound, is_input, watches}
-use Rattle.marks.specs.Rules.{is_output}
-use Rattle.table.specs.Edges.{missing_in, unfit_for, malformed, numbers_bad, guard_bad, value_bad, guardable, valued, empty, untrue_in, edge_fault, edge_tests, missing, unfit, untrue, proc_at}
-use Rattle.table.specs.Examination.{acting, freely}
+use Rattle.table.specs.Edges.{missing_in, unfit_for, malformed, numbers_bad, guard_bad, value_bad, guardable, empty, edge_fault, missing, unfit, untrue}
+use Rattle.table.specs.Examination.{acting}
 use Rattle.table.specs.Expressions.{sound}
 use Rattle.table.specs.Lists.{Lists, Proc}
 use Rattle.table.specs.Records.{kind_of, class_of, mode_of}

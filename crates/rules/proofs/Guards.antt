@@ -1,14 +1,14 @@
 -- Guards and values of an edge and of what it becomes: what is not marked comes to the same, and what is allowed stays so.
-use Rattle.std.proofs.Common.{◌≡◌, ℕ, ◌+◌, ◌<◌, ◌≤◌, min, Bool, true, false, cond, not, ◌&&◌, ◌||◌, eqb, ltb, leb, ◌⊎◌, List, [], ◌∷◌, length, get_or, take, ℤ, pos, None, unwrap_or, sym, refl, ap, ◌∙◌, subst, inl, inr, ⊎_elim, arith}
+use Rattle.std.proofs.Common.{◌≡◌, ℕ, ◌<◌, ◌≤◌, Bool, true, false, cond, not, ◌&&◌, ◌||◌, eqb, length, get_or, take, pos, None, sym, refl, ap, ◌∙◌, subst, ⊎_elim, arith}
 use Rattle.std.proofs.lemmas.List.{length-take-le, get_or-take}
-use Rattle.std.proofs.lemmas.Bool.{cases_Bool, both_ways, and_parts, and_from, and_cases, or_parts, or_cases, not-false, eq-eqb}
+use Rattle.std.proofs.lemmas.Bool.{both_ways, and_parts, and_from, and_cases, or_parts, not-false, eq-eqb}
 use Rattle.std.proofs.lemmas.Bool.Decides.{nat_tests}
 use Rattle.evaluation.specs.Values.{value_of, holds}
 use Rattle.marks.specs.Instances.{process_at}
 use Rattle.marks.specs.Rules.{Marking, indices, marked}
 use Rattle.rules.proofs.Agreeing.{Same, value-agrees, holds-agrees}
 use Rattle.rules.proofs.Closed.{closed-variables, some-closed, none-added}
-use Rattle.rules.proofs.Examined.{Passed, good, terms-same, leaves-closed}
+use Rattle.rules.proofs.Examined.{good, terms-same, leaves-closed}
 use Rattle.rules.proofs.Fates.{Sound}
 use Rattle.rules.proofs.Lists.{In, counting-in, none_in, any-in}
 use Rattle.rules.proofs.Twins.{Twin}
@@ -16,7 +16,7 @@ use Rattle.rules.specs.Closing.{closed, closed_edge, freed, freed_as, marked_gua
 use Rattle.rules.specs.States.{Running, waiting}
 use Rattle.rules.specs.Steps.{scope, is_expression, unguarded, passing, otherwise, allowed_as, allowed, value_in}
 use Rattle.table.specs.Edges.{numbers_bad, guard_bad, value_bad, guardable, empty}
-use Rattle.table.specs.Examination.{bad_process, leaves, acting, acts, some}
+use Rattle.table.specs.Examination.{leaves, acting, acts, some}
 use Rattle.table.specs.Expressions.{part, mentions}
 use Rattle.table.specs.Lists.{Lists}
 use Rattle.table.specs.Records.{kind_of, mode_of}

@@ -1,25 +1,24 @@
 -- A move along an edge and along what the edge becomes: where the one is enabled so is the other, and both lead to worlds alike.
-use Rattle.std.proofs.Common.{◌≡◌, ℕ, ◌+◌, ◌<◌, ◌≤◌, Bool, true, false, cond, not, ◌&&◌, ◌||◌, eqb, ltb, leb, ◌⊎◌, List, [], ◌∷◌, ◌++◌, length, get_or, drop, set, ℤ, pos, is_some, Some, None, Option, unwrap_or, sym, refl, ap, ◌∙◌, subst, inl, inr, ⊎_elim, arith}
+use Rattle.std.proofs.Common.{◌≡◌, ℕ, ◌<◌, Bool, true, false, cond, not, ◌&&◌, eqb, ◌⊎◌, List, [], ◌∷◌, length, get_or, drop, set, ℤ, pos, None, unwrap_or, sym, refl, ap, ◌∙◌, subst, inl, inr, ⊎_elim, arith}
 use Rattle.std.proofs.lemmas.List.{get_or-set_same, get_or-set_other, length-set}
-use Rattle.std.proofs.lemmas.Bool.{cases_Bool, cases_eq, both_ways, and_parts, and_from, and_left, and_right, eqb-true, eqb-false, eq-eqb, ne_eqb, not-true, cond-true, cond-false, lt-leb, leb-false}
+use Rattle.std.proofs.lemmas.Bool.{cases_Bool, cases_eq, both_ways, and_parts, and_from, and_left, and_right, eqb-true, eqb-false, eq-eqb, ne_eqb}
 use Rattle.std.specs.List.{filter}
 use Rattle.evaluation.specs.Values.{value_of}
 use Rattle.marks.specs.Instances.{process_at}
 use Rattle.marks.specs.Rules.{Marking, EdgeObeys, marked, signal_marked, is_output, class_at, arrives, arrives_as, stores, stores_as, turns, turns_as}
-use Rattle.rules.proofs.Closed.{closed-timers-chaos, inside-closed, goal-closed}
-use Rattle.rules.proofs.Examined.{Passed, good, process-there, room-for-chaos, edge-stays-sound}
-use Rattle.rules.proofs.Fates.{Sound, Names, There, there-is, kind_then, kind-under, input-inside, output-inside, edge-sound}
+use Rattle.rules.proofs.Examined.{good, room-for-chaos}
+use Rattle.rules.proofs.Fates.{Sound, Names, There, there-is, kind_then, kind-under, input-inside}
 use Rattle.rules.proofs.Guards.{few-variables, few-timers, value_same, allowed-closed}
 use Rattle.rules.proofs.Lists.{In, any-in}
-use Rattle.rules.proofs.Twins.{Standin, TimerTwin, MessageTwin, Messages, Eight, Twin, Alike, at-put, alike-put, kept_in, kept_out, push-inner, push-outer, queue-length}
-use Rattle.rules.specs.Closing.{Fate, stays, waits, skipped, emptied, fate_as, fate, chaotic, freed, changed, first_under, second_under, value_under, closed_edge, closed, test_refused, invites}
+use Rattle.rules.proofs.Twins.{Standin, TimerTwin, Messages, Twin, kept_in, kept_out}
+use Rattle.rules.specs.Closing.{Fate, stays, emptied, fate_as, fate, chaotic, freed, changed, value_under, closed_edge, closed, test_refused, invites}
 use Rattle.rules.specs.Matching.{inside}
-use Rattle.rules.specs.States.{Running, World, at, is_inbound, is_internal, is_outbound, is_input, goal, due}
-use Rattle.rules.specs.Steps.{scope, value_in, head_is, head_value, kind_ready, ready, enabled, allowed, sends, full, moved, stored, ticks_of, put, message, received, deliver, edge_value, moved_along, move_effect}
+use Rattle.rules.specs.States.{Running, is_inbound, is_internal, is_outbound, is_input, due}
+use Rattle.rules.specs.Steps.{scope, value_in, head_is, head_value, kind_ready, ready, allowed, moved, stored, ticks_of}
 use Rattle.rules.specs.declared.step.Message.{Message}
-use Rattle.table.specs.Edges.{proc_at, unfit_for, absent, edge_fault}
+use Rattle.table.specs.Edges.{proc_at, unfit_for, absent}
 use Rattle.table.specs.Lists.{Lists}
-use Rattle.table.specs.Records.{kind_of, class_of}
+use Rattle.table.specs.Records.{kind_of}
 use Rattle.table.specs.declared.record.Class.{Class}
 use Rattle.table.specs.declared.record.Class.TheVariants.{Internal, Inbound, Outbound, Absent}
 use Rattle.table.specs.declared.record.Edge.{Edge}

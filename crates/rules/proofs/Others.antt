@@ -1,28 +1,27 @@
 -- Offers, discards and expiries, and the moves along added edges.
-use Rattle.std.proofs.Common.{◌≡◌, ℕ, suc, ◌+◌, ◌<◌, ◌≤◌, Bool, true, false, cond, not, ◌&&◌, ◌||◌, eqb, ltb, leb, ◌⊎◌, List, [], ◌∷◌, ◌++◌, length, get_or, drop, set, ℤ, is_some, Some, None, Option, sym, refl, ap, ◌∙◌, subst, inl, inr, ⊎_elim, arith}
-use Rattle.std.proofs.lemmas.List.{get_or-set_same, get_or-set_other, length-set, get_or_default}
-use Rattle.std.proofs.lemmas.Bool.{cases_Bool, cases_eq, both_ways, and_parts, and_from, and_cases, and_left, and_right, eqb-true, eqb-false, eq-eqb, ne_eqb, not-true, not-false, cond-true, cond-false, lt-leb, leb-false}
+use Rattle.std.proofs.Common.{◌≡◌, ℕ, ◌<◌, ◌≤◌, Bool, true, false, not, ◌&&◌, eqb, leb, List, [], ◌∷◌, length, get_or, drop, set, ℤ, is_some, None, sym, refl, ap, ◌∙◌, subst, inl, inr, ⊎_elim, arith}
+use Rattle.std.proofs.lemmas.List.{get_or-set_same, get_or-set_other, length-set}
+use Rattle.std.proofs.lemmas.Bool.{cases_eq, both_ways, and_parts, and_from, and_left, and_right, eqb-true, eq-eqb, ne_eqb, not-true, cond-false, lt-leb}
 use Rattle.std.specs.List.{filter}
 use Rattle.marks.specs.Instances.{process_at}
 use Rattle.marks.specs.Rules.{Marking, marked, class_at}
 use Rattle.refusal.specs.Refusals.{first}
 use Rattle.rules.proofs.Calls.{goal-there, deliver-outer}
-use Rattle.rules.proofs.Closed.{Added, Loop, of_chaos, of_timeout, of_rearm, closed-length, closed-timers-least, closed-edges-length, edge-added, added-in, some-closed, in-added, timeout-added}
-use Rattle.rules.proofs.Examined.{Passed, good, closed-sound, leaves-closed, waiting-closed}
-use Rattle.rules.proofs.Fates.{Sound, edge-sound, kind-under, takes-then, handles-then}
+use Rattle.rules.proofs.Closed.{Loop, of_chaos, of_timeout, of_rearm, closed-length, closed-timers-least, closed-edges-length, edge-added, added-in, some-closed, in-added, timeout-added}
+use Rattle.rules.proofs.Examined.{closed-sound, leaves-closed, waiting-closed}
+use Rattle.rules.proofs.Fates.{edge-sound, kind-under, takes-then, handles-then}
 use Rattle.rules.proofs.Guards.{few-timers}
 use Rattle.rules.proofs.Lists.{In, any-in, none_first, position-finds}
 use Rattle.rules.proofs.Moves.{inbound-not-inside, twin-due}
-use Rattle.rules.proofs.Twins.{Standin, TimerTwin, MessageTwin, Messages, Eight, Twin, Alike, alike-put, alike-open, kept_in, kept_out}
-use Rattle.rules.specs.Closing.{fate, fate_as, first_under, chaotic, closed_edge, closed, added, loop, timeout, rearm, test_refused}
+use Rattle.rules.proofs.Twins.{Standin, TimerTwin, MessageTwin, Messages, Twin, Alike, alike-put, alike-open, kept_in, kept_out}
+use Rattle.rules.specs.Closing.{fate, first_under, closed_edge, closed, added, loop, timeout, rearm, test_refused}
 use Rattle.rules.specs.Matching.{inside, same_edge, same_span, position, number_of, head_inside}
 use Rattle.rules.specs.States.{Running, World, at, is_inbound, is_internal, is_outbound, is_input, watches, goal, due, waiting, takes_signal, handles}
-use Rattle.rules.specs.Steps.{no_edge, edge_at, allowed, kind_ready, ready, enabled, sends, full, moved, put, message, deliver, edge_value, moved_along, move_effect, effect, dropped, expired, untaken, discards, expires, state_at, offer_tests, move_tests, discard_tests, expire_tests, call_refused, scope}
+use Rattle.rules.specs.Steps.{no_edge, edge_at, allowed, kind_ready, ready, enabled, sends, full, moved, put, message, deliver, edge_value, moved_along, move_effect, effect, dropped, untaken, discards, expires, state_at, move_tests, call_refused}
 use Rattle.rules.specs.declared.step.Message.{Message}
-use Rattle.rules.specs.declared.step.Step.TheVariants.{Offer, Move, Discard, Expire, Tick}
+use Rattle.rules.specs.declared.step.Step.TheVariants.{Offer, Move, Discard, Expire}
 use Rattle.table.specs.Edges.{edge_fault}
 use Rattle.table.specs.Examination.{leaves, some}
-use Rattle.table.specs.Expressions.{any}
 use Rattle.table.specs.Lists.{Lists}
 use Rattle.table.specs.Records.{kind_of}
 use Rattle.table.specs.declared.record.Edge.{Edge}

@@ -1,6 +1,6 @@
 -- The promises of the test and of closing, from marks that are the least and what was answered.
-use Rattle.std.proofs.Common.{◌≡◌, ℕ, None, Result}
-use Rattle.marks.specs.Rules.{Marking, Least}
+use Rattle.std.proofs.Common.{◌≡◌, ℕ, Result}
+use Rattle.marks.specs.Rules.{Marking}
 use Rattle.refusal.specs.declared.fault.Refusal.{Refusal}
 use Rattle.rules.proofs.Examined.{table-passes}
 use Rattle.rules.proofs.Runs.{stands-in, verdict}

@@ -1,33 +1,31 @@
 -- Whole runs: from starts that are alike, call by call, to the promise that the closed table stands in for the open one.
-use Rattle.std.proofs.Common.{◌≡◌, ℕ, zero, suc, ◌+◌, ◌-◌, ◌*◌, ◌<◌, ◌≤◌, Bool, true, false, cond, not, ◌&&◌, ◌||◌, eqb, ltb, leb, ◌⊎◌, List, [], ◌∷◌, ◌++◌, map, length, get_or, take, pos, is_some, Some, None, Option, sym, refl, ap, ◌∙◌, subst, inl, inr, ⊎_elim, suc-le-suc, add-zero, zero-add, arith}
-use Rattle.std.proofs.lemmas.List.{length-append, length-map, get_or-map, get_or_append_left, get_or_at, append-nil, take_at}
+use Rattle.std.proofs.Common.{◌≡◌, ℕ, zero, suc, ◌+◌, ◌-◌, ◌*◌, ◌<◌, ◌≤◌, Bool, true, false, cond, not, ◌&&◌, leb, List, [], ◌∷◌, ◌++◌, length, get_or, take, pos, is_some, Some, None, sym, refl, ap, ◌∙◌, subst, inl, suc-le-suc, zero-add, arith}
+use Rattle.std.proofs.lemmas.List.{length-append, length-map, get_or-map, get_or_append_left, get_or_at, take_at}
 use Rattle.std.proofs.lemmas.Option.{slice_get-get_or}
-use Rattle.std.proofs.lemmas.Bool.{cases_Bool, both_ways, and_parts, not-true, not-false, or_from, cond-true, cond-false, leb-false, lt-leb}
+use Rattle.std.proofs.lemmas.Bool.{both_ways, not-true, not-false, or_from, cond-true, cond-false, leb-false, lt-leb}
 use Rattle.std.proofs.lemmas.Bool.Decides.{nat_tests}
-use Rattle.std.specs.Option.{option_or, option_map}
+use Rattle.std.specs.Option.{option_map}
 use Rattle.marks.specs.Instances.{process_at}
 use Rattle.marks.specs.Rules.{Marking, Obeys, class_at}
 use Rattle.refusal.specs.Refusals.{first}
 use Rattle.rules.proofs.Calls.{state-passes, moves-alike, moves-pass}
 use Rattle.rules.proofs.Closed.{closed-length, process-closed, closed-edges-length, edge-closed}
-use Rattle.rules.proofs.Examined.{Passed, good, table-passes, room-for-chaos, closed-passes}
-use Rattle.rules.proofs.Guards.{few-timers}
-use Rattle.rules.proofs.Lists.{in-get_or, any_append, none-some, none-parts, parts_none, mapped-none, is_some-none, cond-none, first-none, none_first, first_at-all, first_from-all, length-padded, get_or-padded, take_past}
+use Rattle.rules.proofs.Examined.{good, room-for-chaos, closed-passes}
+use Rattle.rules.proofs.Lists.{in-get_or, any_append, none-some, none-parts, parts_none, mapped-none, is_some-none, first-none, none_first, first_at-all, first_from-all, length-padded, get_or-padded, take_past}
 use Rattle.rules.proofs.Others.{offer-alike, discard-outer, discard-inner, expire-marked, expire-plain}
-use Rattle.rules.proofs.Ticks.{after-append, taken-append, next-taken, Ticked, tick-taken}
-use Rattle.rules.proofs.Twins.{Standin, TimerTwin, Twin, Alike, visible-same}
-use Rattle.rules.specs.Closing.{chaotic, with_chaos, closed_process, closed, closed_edge, test_refused, timeout}
+use Rattle.rules.proofs.Ticks.{after-append, taken-append, next-taken, tick-taken}
+use Rattle.rules.proofs.Twins.{Twin, Alike, visible-same}
+use Rattle.rules.specs.Closing.{chaotic, with_chaos, closed, closed_edge, test_refused, timeout}
 use Rattle.rules.specs.Matching as Matching
 use Rattle.rules.specs.Matching.{visible, after, one, is_tick, is_offer, ticks, AllTaken, ClosedRun, Matches, number_of, rearms, head_inside, shadow_taken, shadow, shadow_run, shadow_points, run_of, points_of, Stands-in, Verdict}
-use Rattle.rules.specs.States.{Running, World, idle, at, padded, begun, started, lacking, places_refused, start_refused, is_inbound, goal}
-use Rattle.rules.specs.Steps.{no_edge, edge_at, enabled, sends, full, discards, expires, rests, restless, state_at, state_refused, offer_tests, move_tests, discard_tests, expire_tests, call_refused, step_refused, accepts, move_effect, effect, next}
+use Rattle.rules.specs.States.{World, idle, at, padded, begun, started, lacking, places_refused, start_refused, is_inbound, goal}
+use Rattle.rules.specs.Steps.{no_edge, edge_at, enabled, sends, full, discards, expires, rests, restless, state_at, state_refused, move_tests, call_refused, step_refused, accepts, move_effect, effect, next}
 use Rattle.rules.specs.declared.step.Step.{Step}
 use Rattle.rules.specs.declared.step.Step.TheVariants.{Offer, Move, Discard, Expire, Tick}
 use Rattle.table.specs.Edges.{blank}
-use Rattle.table.specs.Examination.{bad_process, first_at, first_from, examined}
+use Rattle.table.specs.Examination.{first_at, first_from, examined}
 use Rattle.table.specs.Expressions.{any}
-use Rattle.table.specs.Lists.{Lists, Proc}
-use Rattle.table.specs.declared.record.Timer.{Timer}
+use Rattle.table.specs.Lists.{Lists}
 use Rattle.table.specs.declared.record.Timer.TheVariants.{Off, On}
 
 module _ (T : Lists) (M : Marking) (tested : test_refused T M ≡ None) (obeys : Obeys T M) where

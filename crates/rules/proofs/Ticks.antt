@@ -1,26 +1,24 @@
 -- A tick of the open table: the closed one rearms its timers at on(0), those that stand in for others, and then ticks too.
-use Rattle.std.proofs.Common.{◌≡◌, ℕ, zero, suc, ◌+◌, ◌-◌, ◌*◌, ◌<◌, ◌≤◌, min, Bool, true, false, cond, not, ◌&&◌, ◌||◌, eqb, ltb, leb, ◌⊎◌, List, [], ◌∷◌, ◌++◌, map, length, get_or, take, drop, set, is_some, Some, None, fold, Option, sym, refl, ap, ◌∙◌, subst, inl, inr, ⊎_elim, suc-le-suc, add-zero, add-suc, zero-add, arith}
-use Rattle.std.proofs.lemmas.List.{get_or-set_same, get_or-set_other, length-set, length-append, length-map, length-take, length-take-le, length-drop, get_or-take, get_or-map, get_or_append_left, get_or-append_right, get_or-drop, get_or_default}
-use Rattle.std.proofs.lemmas.Bool.{cases_Bool, cases_eq, cases_lt, both_ways, and_parts, and_from, not-true, not_from_false, cond-true, cond-false, eq-eqb, or_from}
+use Rattle.std.proofs.Common.{◌≡◌, ℕ, zero, suc, ◌+◌, ◌-◌, ◌*◌, ◌<◌, ◌≤◌, min, Bool, true, false, cond, not, ◌&&◌, List, [], ◌∷◌, ◌++◌, map, length, get_or, take, drop, set, is_some, Some, None, sym, refl, ap, ◌∙◌, subst, inl, inr, ⊎_elim, suc-le-suc, add-zero, add-suc, zero-add, arith}
+use Rattle.std.proofs.lemmas.List.{get_or-set_same, get_or-set_other, length-set, length-append, length-map, length-take, length-take-le, length-drop, get_or-take, get_or-map, get_or_append_left, get_or_default}
+use Rattle.std.proofs.lemmas.Bool.{cases_Bool, cases_eq, cases_lt, both_ways, and_parts, and_from, not-true, cond-true, or_from}
 use Rattle.std.specs.List.{range_with_len, flat_map, filter}
-use Rattle.std.specs.Option.{option_or}
 use Rattle.marks.specs.Instances.{process_at}
 use Rattle.marks.specs.Rules.{Marking}
 use Rattle.rules.proofs.Calls.{state-passes}
-use Rattle.rules.proofs.Closed.{closed-length, closed-timers-chaos, closed-timers-calm, closed-timers-least, chaos-added, rearm-added}
+use Rattle.rules.proofs.Closed.{closed-timers-chaos, closed-timers-calm, closed-timers-least, chaos-added, rearm-added}
 use Rattle.rules.proofs.Examined.{room-for-chaos, waiting-closed}
 use Rattle.rules.proofs.Guards.{few-timers}
-use Rattle.rules.proofs.Lists.{In, in-get_or, in_all, none_in, in-none, any_append, none-some, parts_none, cond-none, first_at-all, all-first_at, length-numbered, get_d_numbered}
+use Rattle.rules.proofs.Lists.{In, in-get_or, in_all, none_in, in-none, any_append, parts_none, all-first_at, length-numbered, get_d_numbered}
 use Rattle.rules.proofs.Others.{retimed, rearm-taken}
-use Rattle.rules.proofs.Twins.{Standin, TimerTwin, Messages, Eight, Twin, Alike, at-put, at_other, alike-closed}
+use Rattle.rules.proofs.Twins.{Standin, TimerTwin, Messages, Twin, Alike, at-put, at_other, alike-closed}
 use Rattle.rules.specs.Closing.{chaotic, closed, added, rearm, test_refused}
 use Rattle.rules.specs.Matching.{inside, after, is_offer, AllTaken, number_of, rearm_of, rearms_of, rearms}
-use Rattle.rules.specs.States.{Running, World, idle, at, lacking, due, waiting, numbered}
+use Rattle.rules.specs.States.{Running, World, idle, at, lacking, due, waiting}
 use Rattle.rules.specs.Steps.{no_message, rests, restless, lower, lowered, ticked, put, effect, state_at, state_refused, call_refused, step_refused, accepts, next}
 use Rattle.rules.specs.declared.step.Message.{Message}
 use Rattle.rules.specs.declared.step.Step.{Step}
 use Rattle.rules.specs.declared.step.Step.TheVariants.{Move, Tick}
-use Rattle.table.specs.Examination.{first_at}
 use Rattle.table.specs.Expressions.{any}
 use Rattle.table.specs.Lists.{Lists}
 use Rattle.table.specs.declared.record.Timer.{Timer}

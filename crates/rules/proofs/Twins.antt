@@ -1,19 +1,19 @@
 -- Worlds of an open table and of its closed one that tell the same.
-use Rattle.std.proofs.Common.{◌≡◌, ℕ, zero, suc, ◌+◌, ◌<◌, ◌≤◌, Bool, true, false, cond, not, ◌&&◌, ◌||◌, eqb, ltb, leb, ◌⊎◌, List, [], ◌∷◌, ◌++◌, map, length, get_or, drop, set, ℤ, pos, Some, None, Option, sym, refl, ap, ◌∙◌, subst, inl, inr, ⊎_elim, zero-add, arith}
+use Rattle.std.proofs.Common.{◌≡◌, ℕ, suc, ◌<◌, ◌≤◌, Bool, true, false, cond, ◌⊎◌, List, [], ◌∷◌, ◌++◌, map, length, get_or, pos, Some, None, sym, refl, ap, ◌∙◌, subst, inl, inr, ⊎_elim, zero-add, arith}
 use Rattle.std.proofs.lemmas.List.FromFn.{length-map-range_with_len, get_or-map-range_with_len}
-use Rattle.std.proofs.lemmas.List.{ext_get_or, get_or-set_same, get_or-set_other, length-set, length-append, append-nil}
+use Rattle.std.proofs.lemmas.List.{ext_get_or, get_or-set_same, get_or-set_other, length-set, append-nil}
 use Rattle.std.proofs.lemmas.List.Sums.{length-filter, count_by-le-length}
-use Rattle.std.proofs.lemmas.Bool.{cases_Bool, cases_eq, both_ways, cond-true, cond-false}
+use Rattle.std.proofs.lemmas.Bool.{cases_eq, both_ways, cond-true, cond-false}
 use Rattle.std.specs.List.{range_with_len, filter}
 use Rattle.marks.specs.Instances.{process_at}
 use Rattle.marks.specs.Rules.{Marking, signal_marked, class_at}
 use Rattle.rules.proofs.Lists.{length-numbered, get_d_numbered}
 use Rattle.rules.specs.Closing.{chaotic}
-use Rattle.rules.specs.Matching.{inside, shown, shared, unless, Seen, seen, visible}
+use Rattle.rules.specs.Matching.{inside, shown, shared, unless, seen, visible}
 use Rattle.rules.specs.States.{Running, World, idle, at, lacking, is_internal, numbered}
-use Rattle.rules.specs.Steps.{put, received, deliver}
+use Rattle.rules.specs.Steps.{put}
 use Rattle.rules.specs.declared.step.Message.{Message}
-use Rattle.table.specs.Lists.{Lists, Proc}
+use Rattle.table.specs.Lists.{Lists}
 use Rattle.table.specs.declared.record.Timer.{Timer}
 use Rattle.table.specs.declared.record.Timer.TheVariants.{Off, On}
 

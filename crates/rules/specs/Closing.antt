@@ -18,7 +18,7 @@
 --   ninth T p            the chaos timer of process p would be its ninth timer
 --   test_refused T M      why the test refuses: the examination, 13, 14
 --   closed_by T M         what closing means: the closed table, or where the test refuses the table as it is
-use Rattle.std.specs.Prelude.{ℕ, ◌+◌, Bool, true, false, cond, ◌&&◌, List, [], ◌∷◌, ◌++◌, map, length, is_some, Some, None, Option, ◌==◌, nat_le, nat_lt}
+use Rattle.std.specs.Prelude.{ℕ, ◌+◌, Bool, false, cond, ◌&&◌, List, [], ◌∷◌, ◌++◌, map, length, is_some, Some, None, Option, ◌==◌, nat_le, nat_lt}
 use Rattle.std.specs.List.{range_with_len, flat_map}
 use Rattle.std.specs.Option.{option_or, option_map}
 use Rattle.marks.specs.Instances.{process_at}

@@ -3,15 +3,15 @@
 --   gate_closed       the closed table
 --   open_trace, closed_trace    a run of the open table, and the closed run that matches it
 --   failing W        the calls of a trace that are refused
-use Rattle.std.specs.Prelude.{◌≡◌, ℕ, Bool, true, List, [], ◌∷◌, ◌++◌, length, replicate, pos, negsuc, Some, None, Option, slice_index_or}
+use Rattle.std.specs.Prelude.{◌≡◌, List, [], ◌∷◌, ◌++◌, length, replicate, pos, Some, None, slice_index_or}
 use Rattle.marks.specs.Rules.{Marking}
 use Rattle.marks.specs.Words.{marks_in}
 use Rattle.rules.specs.Closing.{closed, test_refused, closed_count, loop}
-use Rattle.rules.specs.Matching.{after, taken, run_of, points_of}
-use Rattle.rules.specs.States.{World, started, start_refused}
+use Rattle.rules.specs.Matching.{taken, run_of, points_of}
+use Rattle.rules.specs.States.{started, start_refused}
 use Rattle.rules.specs.Steps.{step_refused, state_at}
 use Rattle.rules.specs.declared.step.Step.{Step}
-use Rattle.rules.specs.declared.step.Step.TheVariants.{Offer, Move, Discard, Expire, Tick}
+use Rattle.rules.specs.declared.step.Step.TheVariants.{Offer, Move, Tick}
 use Rattle.table.specs.Gate.{gate_table, edge, span}
 use Rattle.table.specs.Lists.{Lists}
 

@@ -29,7 +29,7 @@ use Rattle.refusal.specs.Refusals.{refusal, first}
 use Rattle.refusal.specs.declared.fault.Layer.{Layer}
 use Rattle.refusal.specs.declared.fault.Place.{Place}
 use Rattle.refusal.specs.declared.fault.Refusal.{Refusal}
-use Rattle.rules.specs.States.{Running, World, at, lacking, is_inbound, is_internal, is_outbound, goal, due, waiting, is_input, takes_signal, handles, numbered}
+use Rattle.rules.specs.States.{Running, World, at, lacking, is_inbound, is_internal, is_outbound, goal, due, waiting, takes_signal, handles, numbered}
 use Rattle.rules.specs.declared.step.Message.{Message}
 use Rattle.rules.specs.declared.step.Step.{Step}
 use Rattle.rules.specs.declared.step.Step.TheVariants.{Offer, Move, Discard, Expire, Tick}

@@ -1,5 +1,5 @@
 -- The parts of a sheet, joined.
-use Rattle.std.proofs.Common.{◌≡◌, ℕ, ◌+◌, ◌-◌, ◌*◌, ◌/◌, ◌%◌, ◌≤◌, List, length, take, drop, Ok, Err, Result, sym, refl, ap, ◌∙◌, subst, arith}
+use Rattle.std.proofs.Common.{◌≡◌, ℕ, ◌+◌, ◌-◌, ◌*◌, ◌/◌, ◌%◌, ◌≤◌, List, length, take, drop, Ok, Result, sym, refl, ap, ◌∙◌, subst, arith}
 use Rattle.reading.proofs.Chains.{after-got, read}
 use Rattle.reading.specs.Formats.{Answer, got, many, filled, ended}
 use Rattle.reading.specs.Layout.{header_format, process_format, signal_format, edge_format, term_format, name_format, sheet_format}

@@ -5,7 +5,7 @@
 --   Opens            the bytes open to that; a byte less gives 1 at bit 824, a byte more 5 at bit 832, none 1 at bit 0
 use Rattle.std.specs.Prelude.{◌≡◌, ℕ, List, [], ◌∷◌, ◌++◌, take, ℤ, pos, Some, Ok, Err, codes, Result, slice_set}
 use Rattle.reading.specs.Opening.{Opened, opened}
-use Rattle.table.specs.Lists.{Lists, Proc}
+use Rattle.table.specs.Lists.{Lists}
 use Rattle.refusal.specs.Refusals.{refusal}
 use Rattle.table.specs.declared.record.Edge.{Edge}
 use Rattle.table.specs.declared.record.Signal.{Signal}

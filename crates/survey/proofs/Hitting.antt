@@ -1,10 +1,10 @@
 -- An expression is marked just where one of its terms reads a marked variable.
-use Rattle.std.proofs.Common.{◌≡◌, ℕ, ◌<◌, Bool, true, false, ◌&&◌, eqb, ltb, List, ℤ, pos, negsuc, sym, refl, ap, ◌∙◌, subst, ⊎_elim, arith}
-use Rattle.std.proofs.lemmas.Bool.{cases_Bool, both_ways, and_parts, and_from, eqb-true, eq-eqb, ltb-true}
-use Rattle.marks.specs.Rules.{Marking, indices, marked}
+use Rattle.std.proofs.Common.{◌≡◌, ℕ, ◌<◌, Bool, true, false, ◌&&◌, eqb, ltb, ℤ, pos, negsuc, sym, refl, ap, ◌∙◌, arith}
+use Rattle.std.proofs.lemmas.Bool.{both_ways, and_parts, and_from, eqb-true, eq-eqb, ltb-true}
+use Rattle.marks.specs.Rules.{indices, marked}
 use Rattle.marks.specs.Words.{bit, word_at, marking}
 use Rattle.marks.specs.declared.marks.Marks.{Marks}
-use Rattle.rules.proofs.Lists.{In, counting-in, in-counting, any-in, in-any}
+use Rattle.rules.proofs.Lists.{counting-in, any-in, in-any}
 use Rattle.survey.specs.Surveys.{hits}
 use Rattle.table.specs.Expressions.{part, any, names, reads, mentions}
 use Rattle.table.specs.Lists.{Lists}

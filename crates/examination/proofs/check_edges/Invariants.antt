@@ -1,4 +1,4 @@
-use Rattle.std.proofs.Common.{◌≡◌, length, drop}
+use Rattle.std.proofs.Common.{◌≡◌, drop}
 use Rattle.table.specs.Examination.{first_at, edge_refused}
 use Rattle.examination.proofs.check_edges.Given as goal
 

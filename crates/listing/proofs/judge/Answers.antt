@@ -1,4 +1,4 @@
-use Rattle.std.proofs.Common.{◌≡◌, Result, sym, refl, ap, ◌∙◌, subst}
+use Rattle.std.proofs.Common.{Result, refl, ap, ◌∙◌, subst}
 use Rattle.std.proofs.lemmas.Result.{err_from_is_err_and, IfOk-from_err}
 use Rattle.listing.specs.Listing.{refused_of, MarkedOf, Judged}
 use Rattle.marks.specs.Words.{marking}
@@ -10,10 +10,10 @@ use Rattle.listing.proofs.judge.Goals as goal
 pub returns-in_err-marks : goal.returns-in_err-marks
 unfolding opened_of
 returns-in_err-marks c =
-    let p = err_from_is_err_and c.from-residual-in_err-marks.result c.from-residual-in_err-marks.ensures.1 in
+    let p = err_from_is_err_and c.from_residual-in_err-marks.result c.from_residual-in_err-marks.ensures.1 in
     record {
       refused = rw (p.1, p.2) (c.in_err-marks.ensures.refused ∙ ap refused_of c.in_ok-sheet.ensures);
-      made = IfOk-from_err c.from-residual-in_err-marks.result (Judged c.args.bytes.now) c.from-residual-in_err-marks.ensures.0;
+      made = IfOk-from_err c.from_residual-in_err-marks.result (Judged c.args.bytes.now) c.from_residual-in_err-marks.ensures.0;
     }
 
 pub returns : goal.returns

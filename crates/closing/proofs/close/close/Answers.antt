@@ -1,4 +1,4 @@
-use Rattle.std.proofs.Common.{◌≡◌, sym, refl, ap, ◌∙◌}
+use Rattle.std.proofs.Common.{sym}
 use Rattle.rules.proofs.Promised.{closes}
 use Rattle.closing.proofs.Fitting.{closes-refused}
 use Rattle.closing.specs.Layers.{layered}

@@ -1,4 +1,4 @@
-use Rattle.std.proofs.Common.{◌&&◌, leb, length, refl, ◌∙◌}
+use Rattle.std.proofs.Common.{leb, length, refl}
 use Rattle.std.proofs.lemmas.Bool.{and_left}
 use Rattle.closing.proofs.Layering.{layer-off}
 use Rattle.closing.proofs.close.unclosed.Goals as goal

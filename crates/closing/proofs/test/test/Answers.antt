@@ -1,4 +1,4 @@
-use Rattle.std.proofs.Common.{◌≡◌, sym, refl, ap, ◌∙◌}
+use Rattle.std.proofs.Common.{sym}
 use Rattle.std.proofs.lemmas.Result.{err_from_is_err_and}
 use Rattle.closing.proofs.Fitting.{few-edges, tests-refused, tests-planned}
 use Rattle.closing.specs.Faults.{testing}
@@ -9,8 +9,8 @@ use Rattle.closing.proofs.test.test.Goals as goal
 pub returns-in_err-marks : goal.returns-in_err-marks
 returns-in_err-marks g c =
     let T = g.T.Table.lists c.args.table.now in
-    let p = err_from_is_err_and c.from-residual.result c.from-residual.ensures.1 in
-    tests-refused T (table_refusal c.in_err-marks.field-0.0) (testing c.from-residual.result) (sym c.in_err-marks.ensures.refused) (rw (p.1, p.2))
+    let p = err_from_is_err_and c.from_residual.result c.from_residual.ensures.1 in
+    tests-refused T (table_refusal c.in_err-marks.field-0.0) (testing c.from_residual.result) (sym c.in_err-marks.ensures.refused) (rw (p.1, p.2))
 
 pub check_room-requires : goal.check_room-requires
 check_room-requires g c =

@@ -1,4 +1,4 @@
-use Rattle.std.proofs.Common.{◌≡◌, true, false, length, sym}
+use Rattle.std.proofs.Common.{true, false, length, sym}
 use Rattle.std.proofs.lemmas.Bool.{ltb-true, ltb-false}
 use Rattle.table.specs.Edges.{blank}
 use Rattle.table.specs.Examination.{bad_process}

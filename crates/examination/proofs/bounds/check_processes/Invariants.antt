@@ -1,4 +1,4 @@
-use Rattle.std.proofs.Common.{◌≡◌, length, drop}
+use Rattle.std.proofs.Common.{◌≡◌, drop}
 use Rattle.table.specs.Examination.{first_at, limited, bad_process}
 use Rattle.examination.proofs.bounds.check_processes.Given as goal
 

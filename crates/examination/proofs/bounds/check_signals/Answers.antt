@@ -1,4 +1,4 @@
-use Rattle.std.proofs.Common.{◌≡◌, ◌<◌, ◌≤◌, length, sym, refl, ap, ◌∙◌, arith}
+use Rattle.std.proofs.Common.{◌<◌, ◌≤◌, length, sym, ◌∙◌, arith}
 use Rattle.std.proofs.lemmas.Result.{err_from_is_err_and}
 use Rattle.table.specs.Examination.{limited, bad_signal}
 use Rattle.refusal.specs.Refusals.{table_refusal}
@@ -8,7 +8,7 @@ use Rattle.examination.proofs.bounds.check_signals.Goals as goal
 pub returns-in_err-check_signal : goal.returns-in_err-check_signal
 returns-in_err-check_signal g c =
     let T = g.T.Table.lists c.args.table.now in
-    let p = err_from_is_err_and c.from-residual.result c.from-residual.ensures.1 in
+    let p = err_from_is_err_and c.from_residual.result c.from_residual.ensures.1 in
     let f = first_found (limited (bad_signal (length T.processes))) T.signals c.loop-s.s (table_refusal c.in_err-check_signal.field-0.0) (sym c.in_err-check_signal.ensures) in
     rw (p.1, p.2) (sym f ∙ c.loop-s.invariant)
 

@@ -1,8 +1,8 @@
 -- What the questions answered is what the rules read off the lists.
-use Rattle.std.proofs.Common.{◌≡◌, length, get_or, sym, refl, ap, ◌∙◌}
+use Rattle.std.proofs.Common.{◌≡◌, get_or, sym, ap, ◌∙◌}
 use Rattle.examination.proofs.Checks.{nth-or, fault-missing, fault-unfit, fault-malformed, fault-untrue, fault-none}
 use Rattle.table.specs.Edges.{proc_at, absent, blank}
-use Rattle.table.specs.Lists.{Lists, meant}
+use Rattle.table.specs.Lists.{meant}
 use Rattle.examination.proofs.edge.check.Goals as goal
 
 pub returns-then-is_missing : goal.returns-then-is_missing

@@ -1,4 +1,3 @@
-use Rattle.std.proofs.Common.{◌≡◌, sym, refl, ap, ◌∙◌}
 use Rattle.table.specs.Examination.{locations_refused}
 use Rattle.examination.proofs.Placed.{mixed-found, stuck-found}
 use Rattle.examination.proofs.location.check_locations.Goals as goal

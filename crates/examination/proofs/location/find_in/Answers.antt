@@ -1,4 +1,4 @@
-use Rattle.std.proofs.Common.{◌≡◌, ◌-◌, sym, refl, ap, ◌∙◌}
+use Rattle.std.proofs.Common.{sym, ap, ◌∙◌}
 use Rattle.table.specs.Examination.{first_from}
 use Rattle.examination.specs.Locations.{flagged}
 use Rattle.examination.proofs.Nearest.{from_end, from-hit, from-miss}

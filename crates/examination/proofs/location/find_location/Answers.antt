@@ -1,4 +1,4 @@
-use Rattle.std.proofs.Common.{◌≡◌, ◌<◌, ◌≤◌, length, sym, refl, ap, ◌∙◌, arith}
+use Rattle.std.proofs.Common.{◌<◌, ◌≤◌, length, sym, ◌∙◌, arith}
 use Rattle.table.specs.Examination.{location_in}
 use Rattle.examination.specs.Locations.{flagged}
 use Rattle.examination.proofs.Firsts.{first_found, first-passed, first-end}

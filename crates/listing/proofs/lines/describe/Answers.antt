@@ -1,6 +1,6 @@
-use Rattle.std.proofs.Common.{◌≡◌, ◌++◌, string_bytes, sym, refl, ap, ◌∙◌, append_assoc}
+use Rattle.std.proofs.Common.{◌++◌, ap, ◌∙◌}
 use Rattle.listing.specs.Listing.{each_from, table_text, count_text}
-use Rattle.listing.proofs.Texts.{begun, grown, ended}
+use Rattle.listing.proofs.Texts.{grown, ended}
 use Rattle.marks.specs.Words.{marking}
 use Rattle.listing.proofs.lines.describe.Goals as goal
 

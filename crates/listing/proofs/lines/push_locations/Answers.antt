@@ -1,4 +1,4 @@
-use Rattle.std.proofs.Common.{◌≡◌, ◌++◌, string_bytes, sym, refl, ap, ◌∙◌, append_assoc}
+use Rattle.std.proofs.Common.{◌≡◌, ◌++◌, string_bytes, ap, ◌∙◌, append_assoc}
 use Rattle.listing.specs.Listing.{each_from, sort_text, location_text}
 use Rattle.listing.specs.declared.lines.Sort.TheVariants.{Variable, Timer}
 use Rattle.listing.proofs.Texts.{begun, grown, ended}

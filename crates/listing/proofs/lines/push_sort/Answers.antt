@@ -1,5 +1,5 @@
-use Rattle.std.proofs.Common.{◌≡◌, ◌++◌, string_bytes, sym, refl, ap, ◌∙◌}
-use Rattle.listing.specs.Listing.{each_from, sort_text, instance_text}
+use Rattle.std.proofs.Common.{◌≡◌, ◌++◌, string_bytes, ap, ◌∙◌}
+use Rattle.listing.specs.Listing.{each_from, sort_text}
 use Rattle.listing.proofs.Texts.{begun, grown, ended}
 use Rattle.marks.specs.Words.{marking}
 use Rattle.listing.proofs.lines.push_sort.Goals as goal

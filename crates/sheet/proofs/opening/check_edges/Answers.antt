@@ -1,4 +1,4 @@
-use Rattle.std.proofs.Common.{◌≡◌, ◌<◌, ◌≤◌, length, sym, ap, ◌∙◌, arith}
+use Rattle.std.proofs.Common.{◌<◌, ◌≤◌, length, sym, ◌∙◌, arith}
 use Rattle.std.proofs.lemmas.Result.{err_from_is_err_and}
 use Rattle.reading.specs.Faults.{edge_at_refusal}
 use Rattle.reading.specs.Opening.{edge_refused_at}
@@ -10,7 +10,7 @@ use Rattle.examination.proofs.Firsts.{first_found, first-passed, first-end}
 pub returns-in_err-check_edge : goal.returns-in_err-check_edge
 returns-in_err-check_edge c =
     let s = c.args.sheet.now in
-    let p = err_from_is_err_and c.from-residual.result c.from-residual.ensures.1 in
+    let p = err_from_is_err_and c.from_residual.result c.from_residual.ensures.1 in
     let f = first_found (edge_refused_at (lists_of s) s.edges_at) (lists_of s).edges c.loop-k.k (edge_at_refusal c.in_err-check_edge.field-0.0) (sym c.in_err-check_edge.ensures) in
     rw (p.1, p.2) (sym f ∙ c.loop-k.invariant)
 

@@ -1,4 +1,4 @@
-use Rattle.std.proofs.Common.{◌≡◌, sym, ap, ◌∙◌, rules}
+use Rattle.std.proofs.Common.{rules}
 use Rattle.reading.specs.Opening.{opened}
 use Rattle.sheet.specs.Views.{contents_of}
 use Rattle.sheet.proofs.opening.open_sheet.Goals as goal

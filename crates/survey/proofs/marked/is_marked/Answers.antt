@@ -1,9 +1,8 @@
-use Rattle.std.proofs.Common.{◌≡◌, ◌+◌, sym, refl, ap, ◌∙◌}
+use Rattle.std.proofs.Common.{◌+◌}
 use Rattle.marks.specs.Words.{marking}
 use Rattle.survey.specs.Surveys.{hits}
 use Rattle.survey.proofs.Hitting.{marked-hits}
-use Rattle.table.specs.Expressions.{any}
-use Rattle.table.proofs.Windows.{window, window-whole}
+use Rattle.table.proofs.Windows.{window-whole}
 use Rattle.table.proofs.Scans.{any-window-end, any-window-none, any-window-hit, any-window-miss}
 use Rattle.survey.proofs.marked.is_marked.Goals as goal
 

@@ -1,4 +1,4 @@
-use Rattle.std.proofs.Common.{◌≡◌, ◌-◌, length, Some, sym, ap, ◌∙◌, arith}
+use Rattle.std.proofs.Common.{◌-◌, Some, sym, ap, ◌∙◌, arith}
 use Rattle.std.specs.List.{slice_get}
 use Rattle.closing.proofs.Layering.{layer-on, layer-off, none-past, edge_at, edge-past}
 use Rattle.closing.specs.Layers.{loops_in}
@@ -10,8 +10,8 @@ returns-then-not-closes g c =
     let T = g.T.Table.lists c.args.self.now.below in
     c.edge.ensures ∙ sym (ap (λ S. slice_get S.edges c.args.k) (layer-off q T (sym c.if-not-closes.ensures)))
 
-pub overflow-sub-k : goal.overflow-sub-k
-overflow-sub-k g c =
+pub overflow_sub-k : goal.overflow_sub-k
+overflow_sub-k g c =
     let T = g.T.Table.lists c.args.self.now.below in
     omega (arith, c.edge_count.ensures, none-past T.edges c.args.k (sym c.in-None.ensures))
 

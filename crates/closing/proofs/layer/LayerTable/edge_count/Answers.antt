@@ -1,11 +1,10 @@
-use Rattle.std.proofs.Common.{◌≡◌, ◌+◌, ◌≤◌, min, leb, length, sym, ap, ◌∙◌, arith}
+use Rattle.std.proofs.Common.{◌+◌, leb, length, sym, ap, ◌∙◌, arith}
 use Rattle.std.proofs.lemmas.Bool.{and_parts, leb-true}
 use Rattle.closing.proofs.Layering.{layer-on, layer-off, edges-length, loops-length}
-use Rattle.closing.specs.Layers.{loops_in}
 use Rattle.closing.proofs.layer.LayerTable.edge_count.Goals as goal
 
-pub overflow-add-result : goal.overflow-add-result
-overflow-add-result g c =
+pub overflow_add-result : goal.overflow_add-result
+overflow_add-result g c =
     let q = c.args.self.now.plan in
     let T = g.T.Table.lists c.args.self.now.below in
     let h = and_parts q.on (leb (length T.edges) 2048) (sym c.if-closes.ensures) in

@@ -1,4 +1,4 @@
-use Rattle.std.proofs.Common.{◌≡◌, sym, refl, ap, ◌∙◌, subst}
+use Rattle.std.proofs.Common.{sym, ◌∙◌}
 use Rattle.closing.proofs.Layering.{processes-length}
 use Rattle.closing.proofs.layer.LayerTable.process_count.Goals as goal
 

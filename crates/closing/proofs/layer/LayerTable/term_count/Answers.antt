@@ -1,4 +1,4 @@
-use Rattle.std.proofs.Common.{◌≡◌, length, sym, refl, ap, ◌∙◌, subst}
+use Rattle.std.proofs.Common.{length, sym, ap, ◌∙◌}
 use Rattle.closing.proofs.Layering.{terms-same}
 use Rattle.closing.proofs.layer.LayerTable.term_count.Goals as goal
 

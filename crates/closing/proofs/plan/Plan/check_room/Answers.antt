@@ -1,14 +1,12 @@
-use Rattle.std.proofs.Common.{◌≡◌, ℕ, ◌+◌, cond, ◌&&◌, ltb, leb, length, Some, None, sym, ap, ◌∙◌, arith}
+use Rattle.std.proofs.Common.{◌≡◌, ℕ, ◌+◌, ltb, leb, length, Some, None, sym, ap, ◌∙◌, arith}
 use Rattle.std.proofs.lemmas.Bool.{and_from, and_left, and_right, le-leb, lt-leb, lt-ltb, le-ltb, cond-true, cond-false}
 use Rattle.std.specs.Option.{option_or, option_map}
 use Rattle.examination.proofs.Nearest.{from_end, from-hit, from-miss}
 use Rattle.closing.specs.Layers.{timers_in}
 use Rattle.closing.specs.Plans.{ninth_in, count_in, count_refused_in, room_refused}
-use Rattle.refusal.specs.declared.fault.Refusal.{Refusal}
 use Rattle.rules.specs.Closing.{test_at}
 use Rattle.rules.specs.Steps.{answer}
 use Rattle.survey.specs.Surveys.{chaotic_at}
-use Rattle.table.specs.Examination.{first_from}
 use Rattle.closing.proofs.plan.Plan.check_room.Goals as goal
 use Rattle.closing.proofs.plan.Plan.check_room.Goals.{else-is_chaotic-via-then-is_chaotic+else-timers_of-ge-TIMERS, else-is_chaotic-via-else-is_chaotic}
 

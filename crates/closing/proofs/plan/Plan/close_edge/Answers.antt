@@ -1,4 +1,4 @@
-use Rattle.std.proofs.Common.{◌≡◌, ap, ◌∙◌}
+use Rattle.std.proofs.Common.{ap, ◌∙◌}
 use Rattle.closing.specs.Layers.{timers_in, fate_in, edge_in}
 use Rattle.rules.specs.Closing.{changed, no_span}
 use Rattle.table.specs.declared.record.Edge.{Edge}

@@ -1,4 +1,4 @@
-use Rattle.std.proofs.Common.{◌≡◌, sym, ap, ◌∙◌}
+use Rattle.std.proofs.Common.{sym}
 use Rattle.closing.proofs.Fitting.{few-edges, passed-room, failed-table}
 use Rattle.refusal.specs.Refusals.{table_refusal}
 use Rattle.closing.proofs.plan.Plan.passes.Goals as goal

@@ -1,4 +1,4 @@
-use Rattle.std.proofs.Common.{◌≡◌, Bool, List, ◌++◌, sym, refl, ap, ◌∙◌, subst, arith}
+use Rattle.std.proofs.Common.{◌≡◌, Bool, List, ◌++◌, ap, ◌∙◌, subst, arith}
 use Rattle.loops.proofs.Holding.{no-spots, spots-more}
 use Rattle.loops.specs.Rows.{Holds, at_spot, of_process}
 use Rattle.marks.specs.Words.{marking}

@@ -1,6 +1,6 @@
-use Rattle.std.proofs.Common.{◌≡◌, Bool, true, false, List, [], ◌∷◌, ◌++◌, sym, refl, ap, ◌∙◌, subst, arith}
+use Rattle.std.proofs.Common.{Bool, true, [], ◌++◌, sym, ap, subst, arith}
 use Rattle.loops.proofs.Holding.{spot-acting, spot-waiting, holds-nothing}
-use Rattle.loops.specs.Rows.{loop_edge, Holds, chaos_edges, spot_timers, at_spot}
+use Rattle.loops.specs.Rows.{Holds, chaos_edges, spot_timers}
 use Rattle.loops.specs.declared.row.Loops.{Loops}
 use Rattle.marks.specs.Words.{marking}
 use Rattle.loops.proofs.row.Loops.add_spot.Goals as goal

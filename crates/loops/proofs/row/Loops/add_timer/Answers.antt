@@ -1,4 +1,4 @@
-use Rattle.std.proofs.Common.{◌≡◌, Bool, true, false, List, [], ◌∷◌, ◌++◌, sym, refl, ap, subst, arith}
+use Rattle.std.proofs.Common.{Bool, true, false, [], ◌∷◌, ◌++◌, sym, ap, subst, arith}
 use Rattle.loops.proofs.Holding.{holds-two}
 use Rattle.loops.specs.Rows.{loop_edge, Holds, timer_edges}
 use Rattle.loops.specs.declared.row.Loops.{Loops}

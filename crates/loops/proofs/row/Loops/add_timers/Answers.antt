@@ -1,4 +1,4 @@
-use Rattle.std.proofs.Common.{◌≡◌, Bool, ◌++◌, sym, refl, ap, ◌∙◌, subst, arith}
+use Rattle.std.proofs.Common.{◌≡◌, Bool, ◌++◌, ap, ◌∙◌, subst, arith}
 use Rattle.loops.proofs.Holding.{no-timers, timers-more}
 use Rattle.loops.specs.Rows.{Holds, timer_edges, spot_timers}
 use Rattle.marks.specs.Words.{marking, bit}

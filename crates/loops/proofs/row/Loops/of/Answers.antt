@@ -1,4 +1,4 @@
-use Rattle.std.proofs.Common.{◌≡◌, ◌++◌, get_or, sym, refl, ap, ◌∙◌, subst, arith}
+use Rattle.std.proofs.Common.{◌≡◌, ◌++◌, get_or, subst, arith}
 use Rattle.loops.proofs.Holding.{no-processes, processes-more, shaped}
 use Rattle.loops.specs.Rows.{Holds, Shape, shape, of_process, added_by}
 use Rattle.marks.specs.Words.{marking}

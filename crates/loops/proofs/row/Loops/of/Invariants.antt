@@ -1,4 +1,4 @@
-use Rattle.std.proofs.Common.{◌+◌, ◌*◌, ◌≤◌}
+use Rattle.std.proofs.Common.{◌*◌, ◌≤◌}
 use Rattle.loops.specs.Rows.{Holds, added_by}
 use Rattle.marks.specs.Words.{marking}
 use Rattle.loops.proofs.row.Loops.of.Given as goal

@@ -1,4 +1,4 @@
-use Rattle.std.proofs.Common.{◌≡◌, ◌+◌, List, [], ◌∷◌, ◌++◌, set, sym, refl, ap, subst}
+use Rattle.std.proofs.Common.{◌+◌, List, [], ◌∷◌, ◌++◌, sym, refl, ap, subst}
 use Rattle.loops.proofs.Holding.{push-stored, push-counted}
 use Rattle.loops.specs.Rows.{loop_edge, Holds}
 use Rattle.loops.specs.declared.row.Loop.{Loop}

@@ -3,5 +3,5 @@ use Rattle.std.proofs.lemmas.Bool.Decides.{nat_tests}
 use Rattle.marking.proofs.Pushing.{pushes-none, pushes-one, pushes-append}
 use Rattle.marking.proofs.search.Search.follow_signal.Goals as goal
 
-pub returns-else-from_signal : goal.returns-else-from_signal
-returns-else-from_signal c = search (rules, nat_tests, pushes-none, pushes-one, pushes-append)
+pub returns-else-from-signal : goal.returns-else-from-signal
+returns-else-from-signal c = search (rules, nat_tests, pushes-none, pushes-one, pushes-append)

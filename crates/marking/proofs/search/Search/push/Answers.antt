@@ -17,8 +17,8 @@ module _ (s : Search) (i : ℕ) (h : i < 2112) (e : has s.words i ≡ false) whe
   appended : (r : Bool) → r ≡ (fits s.ring (length s.places) && ltb s.ring.len (length s.places)) → r ≡ true
   appended r v = let f = fewer in let w = s.whole in let t = s.fit in let m = s.room in grind (arith, nat_tests)
 
-pub invariant-of-self : goal.invariant-of-self
-invariant-of-self c =
+pub invariant_of-self : goal.invariant_of-self
+invariant_of-self c =
     let s = c.args.self.now in
     let n = c.if-not-has.ensures.value in
     let f = fewer s c.args.node c.if-node-lt-NODES.true (sym n) in
@@ -28,7 +28,12 @@ invariant-of-self c =
     let t : fits c.append.new.self 2112 ≡ true =
     ap (fits c.append.new.self) (sym s.whole) ∙ c.append.ensures.fit ∙ ap (fits s.ring) s.whole ∙ s.fit in
     let k = c.append.ensures.len ∙ ap (λ b. cond b (s.ring.len + 1) s.ring.len) r in
-    (ap length e ∙ length-mark s.words c.args.node ∙ s.marked, (l, (t, (omega (arith, ap (unset 2112) e, s.room), tt))))
+    record {
+      marked = ap length e ∙ length-mark s.words c.args.node ∙ s.marked;
+      whole = l;
+      fit = t;
+      room = omega (arith, ap (unset 2112) e, s.room);
+    }
 
 pub returns-then-not-has : goal.returns-then-not-has
 returns-then-not-has c =

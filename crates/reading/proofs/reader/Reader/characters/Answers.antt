@@ -1,4 +1,4 @@
-use Rattle.std.proofs.Common.{◌≡◌, ℕ, ◌+◌, ◌-◌, ◌*◌, ◌/◌, ◌<◌, List, [], ◌∷◌, ◌++◌, length, get_or, take, drop, sym, refl, ap, ◌∙◌, subst, arith, length-drop, rules}
+use Rattle.std.proofs.Common.{◌≡◌, ℕ, ◌+◌, ◌/◌, ◌<◌, List, [], ◌∷◌, ◌++◌, length, get_or, take, drop, sym, refl, ap, ◌∙◌, subst, arith, length-drop, rules}
 use Rattle.std.proofs.lemmas.List.{take_more, get_or-drop, length_push}
 use Rattle.reading.specs.Formats.{field}
 use Rattle.reading.proofs.Rows.{Row, row-none, row_more, row-exit, row-all}
@@ -9,7 +9,7 @@ loop-i-init c = (row-none (field 8 33 126 6).reads c.args.self.now, omega arith,
 
 pub returns-in_err-name_byte : goal.returns-in_err-name_byte
 returns-in_err-name_byte c = record {
-  reads = row-exit (omega arith) c.loop-i.invariant.0 c.name_byte.ensures.reads c.in_err-name_byte.was c.from-residual.ensures.1;
+  reads = row-exit (omega arith) c.loop-i.invariant.0 c.name_byte.ensures.reads c.in_err-name_byte.was c.from_residual.ensures.1;
   moves = search rules;
   whole = search rules;
 }
@@ -17,7 +17,7 @@ returns-in_err-name_byte c = record {
 pub loop-i-preserved : goal.loop-i-preserved
 loop-i-preserved c =
     let bs = c.args.self.now.bytes.now in
-    let i = c.loop-i.-i in
+    let i = c.loop-i._i in
     let a = c.args.self.now.place / 8 in
     let x = c.in_ok-name_byte.field-0 in
     let b = c.in_ok-name_byte.ensures.byte in
@@ -34,7 +34,7 @@ loop-i-preserved c =
 pub returns : goal.returns
 returns c =
     let bs = c.args.self.now.bytes.now in
-    let n : c.loop-i.-i ≡ c.args.count = omega arith in
+    let n : c.loop-i._i ≡ c.args.count = omega arith in
     let F = λ (k : ℕ). Row (field 8 33 126 6).reads k (take k (drop (c.args.self.now.place / 8) bs)) c.args.self.now c.loop-i.self in
     let G = λ (k : ℕ). length (take k (drop (c.args.self.now.place / 8) bs)) ≡ k in
     record { reads = row-all tt (subst F n c.loop-i.invariant.0) refl; moves = omega arith; whole = subst G n c.loop-i.invariant.2 }

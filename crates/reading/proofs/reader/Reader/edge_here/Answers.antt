@@ -1,4 +1,4 @@
-use Rattle.std.proofs.Common.{◌≡◌, ◌+◌, ◌≤◌, sym, ap, ◌∙◌, arith}
+use Rattle.std.proofs.Common.{ap, ◌∙◌, arith}
 use Rattle.reading.specs.Rows.{no_edge}
 use Rattle.reading.proofs.Loads.{unpacked, edge-loaded}
 use Rattle.reading.proofs.Viewing.{read-or}

@@ -1,4 +1,4 @@
-use Rattle.std.proofs.Common.{◌≡◌, ◌*◌, ◌/◌, ◌<◌, get_or, sym, ap, ◌∙◌, arith, rules}
+use Rattle.std.proofs.Common.{◌≡◌, ◌*◌, ◌/◌, get_or, sym, ap, ◌∙◌, arith, rules}
 use Rattle.reading.specs.Formats.{taken, number}
 use Rattle.reading.proofs.Numbers.{number-byte}
 use Rattle.reading.proofs.reader.Reader.name_byte.Goals as goal

@@ -1,4 +1,4 @@
-use Rattle.std.proofs.Common.{◌≡◌, ℕ, ◌+◌, ◌*◌, ◌/◌, ◌<◌, List, [], ◌∷◌, ◌++◌, length, get_or, sym, refl, ap, ◌∙◌, subst, arith, rules}
+use Rattle.std.proofs.Common.{◌≡◌, ℕ, ◌+◌, ◌*◌, ◌/◌, List, [], ◌∷◌, ◌++◌, length, get_or, sym, refl, ap, ◌∙◌, subst, arith, rules}
 use Rattle.std.proofs.lemmas.List.FromFn.{map-range_with_len_more}
 use Rattle.reading.specs.Layout.{name_format}
 use Rattle.reading.specs.Rows.{text_at, texts_at, next_name, name_start}
@@ -12,13 +12,13 @@ loop-i-init c =
 
 pub returns-in_err-name : goal.returns-in_err-name
 returns-in_err-name c =
-    record { reads = row-exit (omega arith) c.loop-i.invariant.0 c.name.ensures.reads c.in_err-name.was c.from-residual.ensures.1; places = search rules }
+    record { reads = row-exit (omega arith) c.loop-i.invariant.0 c.name.ensures.reads c.in_err-name.was c.from_residual.ensures.1; places = search rules }
 
 pub loop-i-preserved : goal.loop-i-preserved
 loop-i-preserved c =
     let bs = c.args.self.now.bytes.now in
     let a = c.args.self.now.place / 8 in
-    let i = c.loop-i.-i in
+    let i = c.loop-i._i in
     let s = c.loop-i.invariant.0.same in
     let q : c.loop-i.self.place / 8 ≡ name_start bs a i = omega arith in
     let v : text_at c.loop-i.self.bytes.now (c.loop-i.self.place / 8) ≡ text_at bs (name_start bs a i) =
@@ -38,6 +38,6 @@ loop-i-preserved c =
 pub returns : goal.returns
 returns c =
     let bs = c.args.self.now.bytes.now in
-    let n : c.loop-i.-i ≡ c.args.count = omega arith in
+    let n : c.loop-i._i ≡ c.args.count = omega arith in
     let F = λ (k : ℕ). Row name_format.reads k (texts_at bs (c.args.self.now.place / 8) k) c.args.self.now c.loop-i.self in
     record { reads = row-all tt (subst F n c.loop-i.invariant.0) refl; places = (subst (λ (k : ℕ). Laid bs (c.args.self.now.place / 8) k) n c.loop-i.invariant.3).places }

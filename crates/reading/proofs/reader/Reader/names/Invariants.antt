@@ -9,7 +9,7 @@ abbrev pub invariant-loop-i : goal.invariant-loop-i
 invariant-loop-i l =
     let bs = l.initial.self.bytes.now in
     let a = l.initial.self.place / 8 in
-    Row name_format.reads l.-i (texts_at bs a l.-i) l.initial.self l.self
-    × (l.self.place ≡ 8 * name_start bs a l.-i)
-    × (l.self.place ≤ l.initial.self.place + 128 * l.-i)
-    × Laid bs a l.-i
+    Row name_format.reads l._i (texts_at bs a l._i) l.initial.self l.self
+    × (l.self.place ≡ 8 * name_start bs a l._i)
+    × (l.self.place ≤ l.initial.self.place + 128 * l._i)
+    × Laid bs a l._i

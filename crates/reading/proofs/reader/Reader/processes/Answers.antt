@@ -1,6 +1,5 @@
-use Rattle.std.proofs.Common.{◌≡◌, ℕ, ◌+◌, ◌*◌, ◌<◌, ◌≤◌, List, [], ◌∷◌, ◌++◌, length, take, set, sym, refl, ap, ◌∙◌, subst, arith, length-set, rules}
+use Rattle.std.proofs.Common.{◌≡◌, ℕ, ◌+◌, List, [], ◌∷◌, ◌++◌, take, set, sym, refl, ap, ◌∙◌, subst, arith, length-set, rules}
 use Rattle.std.proofs.lemmas.List.{take_more_set, map_push}
-use Rattle.reading.specs.Formats.{got}
 use Rattle.reading.specs.Layout.{process_format}
 use Rattle.reading.specs.Opening.{processes_bits}
 use Rattle.reading.specs.Readings.{read_at, value_or}
@@ -17,7 +16,7 @@ loop-i-init c = (row-none process_format.reads c.args.self.now, omega (arith, pr
 
 pub returns-in_err-process : goal.returns-in_err-process
 returns-in_err-process c = record {
-  reads = row-exit (omega arith) c.loop-i.invariant.0 c.process.ensures.reads c.in_err-process.was c.from-residual.ensures.1;
+  reads = row-exit (omega arith) c.loop-i.invariant.0 c.process.ensures.reads c.in_err-process.was c.from_residual.ensures.1;
   size = search rules;
   bound = omega arith;
 }

@@ -1,4 +1,4 @@
-use Rattle.std.proofs.Common.{◌≡◌, ◌+◌, ◌<◌, ◌≤◌, [], ◌∷◌, ◌++◌, length, take, set, sym, refl, ap, ◌∙◌, subst, arith, length-set, rules}
+use Rattle.std.proofs.Common.{◌≡◌, ◌+◌, take, sym, refl, ◌∙◌, subst, arith, length-set, rules}
 use Rattle.std.proofs.lemmas.List.{take_more_set}
 use Rattle.reading.specs.Layout.{timer_format}
 use Rattle.reading.proofs.Rows.{Row, row-none, row_more, row-exit, row-all}
@@ -9,7 +9,7 @@ loop-i-init c = (row-none timer_format.reads c.args.self.now, omega arith, c.tol
 
 pub returns-in_err-settings : goal.returns-in_err-settings
 returns-in_err-settings c = record {
-  reads = row-exit (omega arith) c.loop-i.invariant.0 c.timer.ensures.reads c.in_err-settings.was c.from-residual.ensures.1;
+  reads = row-exit (omega arith) c.loop-i.invariant.0 c.timer.ensures.reads c.in_err-settings.was c.from_residual.ensures.1;
   moves = search rules;
 }
 

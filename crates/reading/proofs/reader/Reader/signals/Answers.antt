@@ -10,7 +10,7 @@ loop-i-init c = (row-none (signal_format c.args.processes).reads c.args.self.now
 
 pub returns-in_err-signal : goal.returns-in_err-signal
 returns-in_err-signal c = record {
-  reads = row-exit (omega arith) c.loop-i.invariant.0 c.signal.ensures.reads c.in_err-signal.was c.from-residual.ensures.1;
+  reads = row-exit (omega arith) c.loop-i.invariant.0 c.signal.ensures.reads c.in_err-signal.was c.from_residual.ensures.1;
   moves = search rules;
 }
 
@@ -22,6 +22,6 @@ loop-i-preserved c = (
 
 pub returns : goal.returns
 returns c =
-    let n : c.loop-i.-i ≡ c.args.count = omega arith in
+    let n : c.loop-i._i ≡ c.args.count = omega arith in
     let F = λ (k : ℕ). Row (signal_format c.args.processes).reads k (row_at (signal_format c.args.processes) absent c.args.self.now.bytes.now c.args.self.now.place 6 k) c.args.self.now c.loop-i.self in
     record { reads = row-all tt (subst F n c.loop-i.invariant.0) refl; moves = omega arith }

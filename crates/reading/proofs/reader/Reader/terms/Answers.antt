@@ -10,7 +10,7 @@ loop-i-init c = (row-none term_format.reads c.args.self.now, omega arith)
 
 pub returns-in_err-term : goal.returns-in_err-term
 returns-in_err-term c = record {
-  reads = row-exit (omega arith) c.loop-i.invariant.0 c.term.ensures.reads c.in_err-term.was c.from-residual.ensures.1;
+  reads = row-exit (omega arith) c.loop-i.invariant.0 c.term.ensures.reads c.in_err-term.was c.from_residual.ensures.1;
   moves = search rules;
 }
 
@@ -22,6 +22,6 @@ loop-i-preserved c = (
 
 pub returns : goal.returns
 returns c =
-    let n : c.loop-i.-i ≡ c.args.count = omega arith in
+    let n : c.loop-i._i ≡ c.args.count = omega arith in
     let F = λ (k : ℕ). Row term_format.reads k (row_at (term_format) no_term c.args.self.now.bytes.now c.args.self.now.place 20 k) c.args.self.now c.loop-i.self in
     record { reads = row-all tt (subst F n c.loop-i.invariant.0) refl; moves = omega arith }

@@ -7,5 +7,5 @@ use Rattle.reading.proofs.reader.Reader.terms.Given as goal
 
 abbrev pub invariant-loop-i : goal.invariant-loop-i
 invariant-loop-i l =
-    Row term_format.reads l.-i (row_at (term_format) no_term l.initial.self.bytes.now l.initial.self.place 20 l.-i) l.initial.self l.self
-    × (l.self.place ≡ l.initial.self.place + 20 * l.-i)
+    Row term_format.reads l._i (row_at (term_format) no_term l.initial.self.bytes.now l.initial.self.place 20 l._i) l.initial.self l.self
+    × (l.self.place ≡ l.initial.self.place + 20 * l._i)

@@ -1,4 +1,4 @@
-use Rattle.std.proofs.Common.{◌≡◌, ◌+◌, ◌<◌, ◌≤◌, [], ◌∷◌, ◌++◌, length, take, set, sym, refl, ap, ◌∙◌, subst, arith, length-set, w16, SFits, to_z, of_z, rules}
+use Rattle.std.proofs.Common.{◌≡◌, ◌+◌, [], ◌∷◌, ◌++◌, take, set, sym, refl, ap, ◌∙◌, subst, arith, length-set, w16, SFits, to_z, of_z, rules}
 use Rattle.std.proofs.lemmas.List.{take_more_set}
 use Rattle.std.proofs.lemmas.Int.{to_z-of_z}
 use Rattle.reading.specs.Formats.{signed}
@@ -10,7 +10,7 @@ loop-i-init c = (row-none signed.reads c.args.self.now, omega arith, c.told-valu
 
 pub returns-in_err-values : goal.returns-in_err-values
 returns-in_err-values c = record {
-  reads = row-exit (omega arith) c.loop-i.invariant.0 c.integer.ensures.reads c.in_err-values.was c.from-residual.ensures.1;
+  reads = row-exit (omega arith) c.loop-i.invariant.0 c.integer.ensures.reads c.in_err-values.was c.from_residual.ensures.1;
   moves = search rules;
 }
 

@@ -1,4 +1,4 @@
-use Rattle.std.proofs.Common.{◌≡◌, ◌+◌, min, length, get_or, sym, ap, ◌∙◌, arith}
+use Rattle.std.proofs.Common.{◌≡◌, ◌+◌, min, length, get_or, ap, ◌∙◌, arith}
 use Rattle.reading.specs.Rows.{text_at}
 use Rattle.sheet.specs.Views.{bytes_of}
 use Rattle.reading.proofs.Naming.{clipped}

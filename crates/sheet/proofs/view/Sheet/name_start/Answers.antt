@@ -1,4 +1,4 @@
-use Rattle.std.proofs.Common.{◌≡◌, ◌+◌, get_or, sym, ap, ◌∙◌, arith}
+use Rattle.std.proofs.Common.{◌≡◌, ◌+◌, sym, ap, ◌∙◌, arith}
 use Rattle.reading.specs.Rows.{next_name, name_start}
 use Rattle.sheet.specs.Views.{bytes_of}
 use Rattle.reading.proofs.Naming.{name_start-none, name_start-more}
@@ -11,10 +11,10 @@ pub loop-i-preserved : goal.loop-i-preserved
 loop-i-preserved c =
     let s = c.args.self.now in
     let e : c.loop-i.at + (1 + c.from.result) ≡ next_name (bytes_of s) c.loop-i.at = omega arith in
-    (e ∙ ap (next_name (bytes_of s)) c.loop-i.invariant.0 ∙ sym (name_start-more (bytes_of s) s.names_at c.loop-i.-i), omega arith)
+    (e ∙ ap (next_name (bytes_of s)) c.loop-i.invariant.0 ∙ sym (name_start-more (bytes_of s) s.names_at c.loop-i._i), omega arith)
 
 pub returns : goal.returns
 returns c =
     let s = c.args.self.now in
-    let e : c.loop-i.-i ≡ c.args.k = omega arith in
+    let e : c.loop-i._i ≡ c.args.k = omega arith in
     record { value = c.loop-i.invariant.0 ∙ ap (name_start (bytes_of s) s.names_at) e; bound = omega arith }

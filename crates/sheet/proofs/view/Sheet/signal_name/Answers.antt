@@ -1,4 +1,4 @@
-use Rattle.std.proofs.Common.{◌≡◌, ℕ, ◌+◌, List, [], Some, sym, ap, ◌∙◌, arith}
+use Rattle.std.proofs.Common.{ℕ, ◌+◌, List, [], Some, sym, ap, ◌∙◌, arith}
 use Rattle.reading.specs.Rows.{name_start, text_at}
 use Rattle.sheet.specs.Views.{bytes_of, names_of, opened_of}
 use Rattle.reading.proofs.Naming.{nth-second, nth-second-past}

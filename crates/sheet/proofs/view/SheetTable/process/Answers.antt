@@ -1,4 +1,4 @@
-use Rattle.std.proofs.Common.{◌≡◌, ◌<◌, ◌≤◌, length, get_or, take, sym, refl, ap, ◌∙◌, arith, rules}
+use Rattle.std.proofs.Common.{◌≡◌, ◌<◌, ◌≤◌, length, take, sym, refl, ap, ◌∙◌, arith, rules}
 use Rattle.std.proofs.lemmas.List.{get_or_past}
 use Rattle.std.proofs.lemmas.Bool.{lt-ltb, le-ltb}
 use Rattle.reading.specs.Rows.{processes_from}
@@ -6,7 +6,6 @@ use Rattle.sheet.specs.Views.{lists_of}
 use Rattle.reading.proofs.Viewing.{length-processes, get_or-processes, read-or}
 use Rattle.sheet.proofs.view.SheetTable.process.Goals as goal
 use Rattle.table.specs.Lists.{meant}
-use Rattle.table.specs.declared.record.Process.{Process}
 
 pub returns-then-p-from : goal.returns-then-p-from
 unfolding lists_of

@@ -1,5 +1,4 @@
 use Rattle.std.proofs.Common.{arith}
-use Rattle.std.proofs.lemmas.List.{get_or_read}
 use Rattle.std.proofs.lemmas.Bool.Decides.{nat_tests}
 use Rattle.survey.specs.Surveys.{spot_at}
 use Rattle.survey.proofs.spots.Survey.spot.Goals as goal
