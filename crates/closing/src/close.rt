@@ -12,7 +12,7 @@ use marks::marks::Marks;
 use table::questions::Table;
 
 /// The table closed by these marks, or as it is where the test by them refuses.
-pub fn close_by<T: Table>(table: T, marks: &Marks) -> Layer<T>
+pub(crate) fn close_by<T: Table>(table: T, marks: &Marks) -> Layer<T>
     ensures meaning { layered result.plan (T.lists result.below) ≡ closed_by (T.lists table) (marking marks.now) }
     ensures below { result.below ≡ table }
 {
@@ -22,7 +22,7 @@ pub fn close_by<T: Table>(table: T, marks: &Marks) -> Layer<T>
 }
 
 /// The table closed by its least marks, or as it is where the test refuses.
-pub fn close<T: Table>(table: T) -> Layer<T>
+pub(crate) fn close<T: Table>(table: T) -> Layer<T>
     ensures closes { Closes (T.lists table) (layered result.plan (T.lists result.below)) }
     ensures below { result.below ≡ table }
 {
@@ -33,7 +33,7 @@ pub fn close<T: Table>(table: T) -> Layer<T>
 }
 
 /// The table as it is.
-pub fn unclosed<T: Table>(table: T) -> Layer<T>
+pub(crate) fn unclosed<T: Table>(table: T) -> Layer<T>
     ensures meaning { layered result.plan (T.lists result.below) ≡ T.lists table }
     ensures below { result.below ≡ table }
 {

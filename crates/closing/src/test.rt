@@ -43,7 +43,7 @@ impl Plan {
 }
 
 /// Whether the table can be closed; answers how many edges the closed table has.
-pub fn test<T: Table>(table: &T) -> Result<usize, TestFault>
+pub(crate) fn test<T: Table>(table: &T) -> Result<usize, TestFault>
     ensures { Tests (T.lists table.now) (testing result) }
 {
     let marks = mark(table)?;
