@@ -6,7 +6,7 @@ use Rattle.std.specs.List.{slice_get}
 use Rattle.std.specs.Option.{option_map}
 use Rattle.closing.specs.Layers.{edge_in, process_in, loops_in, closed_in, layered}
 use Rattle.closing.specs.declared.plan.Plan.{Plan}
-use Rattle.rules.proofs.Lists.{length-numbered, get_d_numbered}
+use Rattle.rules.proofs.Lists.{length-numbered, get_or-numbered}
 use Rattle.loops.specs.Rows.{loop_edge}
 use Rattle.rules.specs.Closing.{closed_signal, with_chaos}
 use Rattle.rules.specs.States.{padded}
@@ -72,7 +72,7 @@ module _ (q : Plan) (T : Lists) where
 
   pub process-at : (p : ℕ) (d e : Proc) → p < length T.processes → get_or (closed_in q T).processes p d ≡ process_in q p (get_or T.processes p e)
   unfolding closed_in
-  process-at p d e h = get_d_numbered (process_in q) 0 T.processes p d e h ∙ ap (λ i. process_in q i (get_or T.processes p e)) (zero-add p)
+  process-at p d e h = get_or-numbered (process_in q) 0 T.processes p d e h ∙ ap (λ i. process_in q i (get_or T.processes p e)) (zero-add p)
 
   pub process-past : (p : ℕ) (d : Proc) → length T.processes ≤ p → get_or (layered q T).processes p d ≡ get_or T.processes p d
   process-past p d h =

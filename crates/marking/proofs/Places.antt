@@ -3,10 +3,10 @@ use Rattle.std.proofs.Common.{◌≡◌, ℕ, zero, suc, ◌+◌, ◌≤◌, Lis
 use Rattle.std.proofs.lemmas.List.{append-nil, append_assoc, take_all}
 use Rattle.std.specs.List.{slice_get, flat_map}
 
-pub get_d_some : {A : Type 0} (xs : List A) (i : ℕ) (d x : A) → slice_get xs i ≡ Some x → get_or xs i d ≡ x
-get_d_some [] i d x e = let z : ◌≡◌ {A = ℕ} 0 1 = cc in absurd (omega arith)
-get_d_some (y ∷ ys) zero d x e = cc
-get_d_some (y ∷ ys) (suc i) d x e = get_d_some ys i d x e
+pub get_or-some : {A : Type 0} (xs : List A) (i : ℕ) (d x : A) → slice_get xs i ≡ Some x → get_or xs i d ≡ x
+get_or-some [] i d x e = let z : ◌≡◌ {A = ℕ} 0 1 = cc in absurd (omega arith)
+get_or-some (y ∷ ys) zero d x e = cc
+get_or-some (y ∷ ys) (suc i) d x e = get_or-some ys i d x e
 
 pub get_or-none : {A : Type 0} (xs : List A) (i : ℕ) (d : A) → slice_get xs i ≡ None → get_or xs i d ≡ d
 get_or-none [] i d e = refl

@@ -18,8 +18,7 @@
 --   filled               the fill
 --   ended                the end of the bytes, refused with 5 where more follow
 use Rattle.std.specs.Prelude.{ℕ, zero, suc, ◌+◌, ◌-◌, ◌*◌, ◌/◌, ◌%◌, ◌^◌, cond, ◌&&◌, List, [], ◌∷◌, ◌++◌, length, ℤ, nat_le, nat_lt, slice_index}
-use Rattle.std.specs.Int.{w16}
-use Rattle.std.proofs.Common.{to_z, of_z}
+use Rattle.std.specs.Int.{w16, cast_signed, cast_unsigned}
 use Rattle.std.specs.List.{flat_map}
 use Rattle.refusal.specs.Refusals.{refusal}
 use Rattle.refusal.specs.declared.fault.Layer.{Layer}
@@ -68,7 +67,7 @@ abbrev pub via : {A B : Type 0} → (A → B) → (B → A) → Format A → For
 via to from f = record { reads = λ bs p. after (f.reads bs p) (λ x q. got (to x) q); writes = λ y. f.writes (from y) }
 
 abbrev pub signed : Format ℤ
-signed = via (to_z w16) (of_z w16) (plain 16)
+signed = via (cast_signed w16) (cast_unsigned w16) (plain 16)
 
 abbrev pub then : {A B : Type 0} → Format A → (B → A) → (A → Format B) → Format B
 then f part rest = record {

@@ -17,8 +17,8 @@ length_part ps h l a b = simp (length-take, length-drop, length-append) (omega a
 get_or-twice : {X : Type 0} (ps : List X) (i : ℕ) (d : X) → get_or (ps ++ ps) i d ≡ cond (ltb i (length ps)) (get_or ps i d) (get_or ps (i - length ps) d)
 get_or-twice ps i d = grind (arith, nat_tests, get_or_append_left ps ps d i, get_or-append_right ps ps (length ps) i d refl)
 
-get_d_part : {X : Type 0} (ps : List X) (h l k : ℕ) (d : X) → k < l → get_or (part h l ps) k d ≡ cond (ltb (h + k) (length ps)) (get_or ps (h + k) d) (get_or ps (h + k - length ps) d)
-get_d_part ps h l k d a = get_or-take l _ k d a ∙ get_or-drop h _ k d ∙ get_or-twice ps (h + k) d
+get_or-part : {X : Type 0} (ps : List X) (h l k : ℕ) (d : X) → k < l → get_or (part h l ps) k d ≡ cond (ltb (h + k) (length ps)) (get_or ps (h + k) d) (get_or ps (h + k - length ps) d)
+get_or-part ps h l k d a = get_or-take l _ k d a ∙ get_or-drop h _ k d ∙ get_or-twice ps (h + k) d
 
 -- a list that has one item more at its end than another, and one that has it at its start
 push-from : {X : Type 0} (xs ys : List X) (l : ℕ) (x : X) → length xs ≡ l + 1 → length ys ≡ l → ((k : ℕ) (d : X) → k < l → get_or xs k d ≡ get_or ys k d) → ((d : X) → get_or xs l d ≡ x) → xs ≡ ys ++ x ∷ []
@@ -38,16 +38,16 @@ part-append ps h l p x a b e =
     push-from (part h (l + 1) (set ps p x)) (part h l ps) l x
     (length_part (set ps p x) h (l + 1) (omega arith) (omega arith))
     (length_part ps h l a (omega arith))
-    (λ k d i. grind (arith, nat_tests, get_d_part (set ps p x) h (l + 1) k d, get_d_part ps h l k d, get_or-set_other ps p (h + k) x d, get_or-set_other ps p (h + k - length ps) x d))
-    (λ d. grind (arith, nat_tests, get_d_part (set ps p x) h (l + 1) l d, get_or-set_same ps p x d))
+    (λ k d i. grind (arith, nat_tests, get_or-part (set ps p x) h (l + 1) k d, get_or-part ps h l k d, get_or-set_other ps p (h + k) x d, get_or-set_other ps p (h + k - length ps) x d))
+    (λ d. grind (arith, nat_tests, get_or-part (set ps p x) h (l + 1) l d, get_or-set_same ps p x d))
 
 part-remove : {X : Type 0} (ps : List X) (h l g : ℕ) (d : X) → h < length ps → l < length ps → g ≡ cond (ltb (h + 1) (length ps)) (h + 1) 0 → part h (l + 1) ps ≡ get_or ps h d ∷ part g l ps
 part-remove ps h l g d a b e =
     cons-from (part h (l + 1) ps) (part g l ps) l (get_or ps h d)
     (length_part ps h (l + 1) a (omega arith))
     (length_part ps g l (grind (arith, nat_tests)) (omega arith))
-    (λ v. grind (arith, nat_tests, get_d_part ps h (l + 1) 0 v, get_or_default ps h d v a))
-    (λ k v i. grind (arith, nat_tests, get_d_part ps h (l + 1) (suc k) v, get_d_part ps g l k v))
+    (λ v. grind (arith, nat_tests, get_or-part ps h (l + 1) 0 v, get_or_default ps h d v a))
+    (λ k v i. grind (arith, nat_tests, get_or-part ps h (l + 1) (suc k) v, get_or-part ps g l k v))
 
 pub length-held : {X : Type 0} (r : Ring) (ps : List X) → length (held r ps) ≡ cond (fits r (length ps)) r.len 0
 unfolding held

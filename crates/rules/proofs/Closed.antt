@@ -5,7 +5,7 @@ use Rattle.std.proofs.lemmas.Bool.{cases_Bool, cond-true, cond-false, and_parts,
 use Rattle.std.specs.List.{range_with_len, flat_map}
 use Rattle.marks.specs.Instances.{process_at}
 use Rattle.marks.specs.Rules.{Marking, class_at}
-use Rattle.rules.proofs.Lists.{In, in_left, in_right, in_parts, in_map, map-in, in-joined, joined_in, in-counting, counting-in, in-none, any_append, any-map, length-numbered, get_d_numbered}
+use Rattle.rules.proofs.Lists.{In, in_left, in_right, in_parts, in_map, map-in, in-joined, joined_in, in-counting, counting-in, in-none, any_append, any-map, length-numbered, get_or-numbered}
 use Rattle.rules.specs.Closing.{chaotic, with_chaos, closed_process, closed_signal, closed_edge, rearm, timeout, timer_loops, chaos_loops, added_at, added_to, added, closed}
 use Rattle.rules.specs.States.{is_inbound, is_internal, is_outbound, goal, waiting, handles}
 use Rattle.rules.specs.Steps.{no_edge, edge_at}
@@ -43,7 +43,7 @@ module _ (T : Lists) (M : Marking) where
   pub process-closed : (p : ℕ) → p < length T.processes → process_at (closed T M) p ≡ closed_process T p (process_at T p)
   unfolding closed
   process-closed p h =
-      get_d_numbered (closed_process T) 0 T.processes p blank blank h ∙ ap (λ k. closed_process T k (process_at T p)) (zero-add p)
+      get_or-numbered (closed_process T) 0 T.processes p blank blank h ∙ ap (λ k. closed_process T k (process_at T p)) (zero-add p)
 
   of-closed : {A : Type 0} (g : Proc → A) → ((r : Proc) → g (with_chaos r) ≡ g r) → (b : Bool) (r : Proc) → g (cond b (with_chaos r) r) ≡ g r
   of-closed g e true r = e r

@@ -190,13 +190,13 @@ unfolding numbered
 length-numbered f i [] = refl
 length-numbered f i (x ∷ xs) = ap suc (length-numbered f (i + 1) xs)
 
-pub get_d_numbered : {A B : Type 0} (f : ℕ → A → B) (i : ℕ) (xs : List A) (k : ℕ) (d : B) (e : A) → k < length xs → get_or (numbered f i xs) k d ≡ f (i + k) (get_or xs k e)
+pub get_or-numbered : {A B : Type 0} (f : ℕ → A → B) (i : ℕ) (xs : List A) (k : ℕ) (d : B) (e : A) → k < length xs → get_or (numbered f i xs) k d ≡ f (i + k) (get_or xs k e)
 unfolding numbered
-get_d_numbered f i [] k d e h = absurd (omega arith)
-get_d_numbered f i (x ∷ xs) zero d e h = rw add-zero
-get_d_numbered f i (x ∷ xs) (suc k) d e (suc-le-suc h) =
+get_or-numbered f i [] k d e h = absurd (omega arith)
+get_or-numbered f i (x ∷ xs) zero d e h = rw add-zero
+get_or-numbered f i (x ∷ xs) (suc k) d e (suc-le-suc h) =
     let q : i + suc k ≡ (i + 1) + k = omega arith in
-    rw q (get_d_numbered f (i + 1) xs k d e h)
+    rw q (get_or-numbered f (i + 1) xs k d e h)
 
 -- the place of the first that passes
 

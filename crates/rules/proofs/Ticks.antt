@@ -9,7 +9,7 @@ use Rattle.rules.proofs.Calls.{state-passes}
 use Rattle.rules.proofs.Closed.{closed-timers-chaos, closed-timers-calm, closed-timers-least, chaos-added, rearm-added}
 use Rattle.rules.proofs.Examined.{room-for-chaos, waiting-closed}
 use Rattle.rules.proofs.Guards.{few-timers}
-use Rattle.rules.proofs.Lists.{In, in-get_or, in_all, none_in, in-none, any_append, parts_none, all-first_at, length-numbered, get_d_numbered}
+use Rattle.rules.proofs.Lists.{In, in-get_or, in_all, none_in, in-none, any_append, parts_none, all-first_at, length-numbered, get_or-numbered}
 use Rattle.rules.proofs.Others.{retimed, rearm-taken}
 use Rattle.rules.proofs.Twins.{Standin, TimerTwin, Messages, Twin, Alike, at-put, at_other, alike-closed}
 use Rattle.rules.specs.Closing.{chaotic, closed, added, rearm, test_refused}
@@ -287,7 +287,7 @@ module _ (T : Lists) (M : Marking) (tested : test_refused T M ≡ None) where
 
     at_tick : (S : Lists) (U : World) (p : ℕ) → p < length U.processes → at (effect S U Tick) p ≡ ticked S p (at U p)
     unfolding effect
-    at_tick S U p h = get_d_numbered (ticked S) 0 U.processes p idle idle h ∙ ap (λ i. ticked S i (at U p)) (zero-add p)
+    at_tick S U p h = get_or-numbered (ticked S) 0 U.processes p idle idle h ∙ ap (λ i. ticked S i (at U p)) (zero-add p)
 
     length-tick : (S : Lists) (U : World) → length (effect S U Tick).processes ≡ length U.processes
     unfolding effect

@@ -7,7 +7,7 @@ use Rattle.std.proofs.lemmas.Bool.{cases_eq, both_ways, cond-true, cond-false}
 use Rattle.std.specs.List.{range_with_len, filter}
 use Rattle.marks.specs.Instances.{process_at}
 use Rattle.marks.specs.Rules.{Marking, signal_marked, class_at}
-use Rattle.rules.proofs.Lists.{length-numbered, get_d_numbered}
+use Rattle.rules.proofs.Lists.{length-numbered, get_or-numbered}
 use Rattle.rules.specs.Closing.{chaotic}
 use Rattle.rules.specs.Matching.{inside, shown, shared, unless, seen, visible}
 use Rattle.rules.specs.States.{Running, World, idle, at, lacking, is_internal, numbered}
@@ -233,8 +233,8 @@ module _ (T : Lists) (M : Marking) where
       (λ p l.
       let h : p < length V.processes = subst (λ n. p < n) (length-numbered (seen T M) 0 V.processes) l in
       let k : p < length W.processes = omega (arith, a.closed, a.opened) in
-      get_d_numbered (seen T M) 0 V.processes p (seen T M 0 idle) idle h
+      get_or-numbered (seen T M) 0 V.processes p (seen T M 0 idle) idle h
       ∙ ap (λ i. seen T M i (at V p)) (zero-add p)
       ∙ seen_same p (at W p) (at V p) (a.twin p (omega (arith, a.closed)))
       ∙ ap (λ i. seen T M i (at W p)) (sym (zero-add p))
-      ∙ sym (get_d_numbered (seen T M) 0 W.processes p (seen T M 0 idle) idle k))
+      ∙ sym (get_or-numbered (seen T M) 0 W.processes p (seen T M 0 idle) idle k))

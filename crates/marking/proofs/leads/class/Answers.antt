@@ -1,12 +1,12 @@
 use Rattle.std.proofs.Common.{sym, ap, ◌∙◌}
 use Rattle.table.specs.Edges.{absent}
 use Rattle.table.specs.Records.{class_of}
-use Rattle.marking.proofs.Places.{get_d_some, get_or-none}
+use Rattle.marking.proofs.Places.{get_or-some, get_or-none}
 use Rattle.marking.proofs.leads.class.Goals as goal
 
 pub returns-in-Some : goal.returns-in-Some
 returns-in-Some g c =
-    let e = get_d_some (g.T.Table.lists c.args.table.now).signals c.args.signal absent c.in-Some.signal (cc) in
+    let e = get_or-some (g.T.Table.lists c.args.table.now).signals c.args.signal absent c.in-Some.signal (cc) in
     record { value = c.is.ensures ∙ sym (ap (λ s. class_of s.class) e) }
 
 pub returns-in-None : goal.returns-in-None
