@@ -3,7 +3,7 @@
 
 Run it once at the top, right after the kit's port.py. A name that a file of specs/ or proofs/ defines, and that begins in
 lower case and goes on in camel case, gets underscores; a dash, which joins two names, stays. Names of src/ keep their
-spelling. It stops where two names would fall together, but for those of KEPT_APART.
+spelling. It stops where two names would fall together, but for those that ASIDE moves away first.
 """
 import pathlib
 import re
@@ -13,7 +13,7 @@ SIGNATURE = re.compile(r"^\s*(?:(?:abbrev|unfoldable|pub|opaque|ruleset|record|d
 TOKEN = re.compile(r"[^\s:(){},.;=|«»\[\]<>&`\"]+")
 STRING = re.compile(r'"(?:\\.|[^"\\])*"')
 
-# A name that would be that of a field or of another lemma gets one of its own.
+# Three would get the name of a field; the fourth goes with them.
 KEPT_APART = {
     "processesAt": "processes_from",
     "signalsAt": "signals_from",
