@@ -1,5 +1,5 @@
 -- The number, layer and place of every refusal of the test.
---   test_refusal f      a table's refusal stays as it is
+--   test_refusal f     a table's refusal stays as it is
 --   testing r          what the test answers, as the rules say it
 use Rattle.std.specs.Prelude.{ℕ, Result}
 use Rattle.std.specs.Result.{result_map_both}

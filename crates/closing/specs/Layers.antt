@@ -1,12 +1,12 @@
 -- What a closing layer means, by its plan q and the lists T of the table below.
---   marks_in q            the plan's marks
---   timers_in q p         how many timers process p has of its own
---   fate_in q T e         what becomes of the move of edge e
---   freed_in q T e        whether e loses its guard
---   edge_in q T e         what e becomes
---   process_in q p r      process p, whose record means r, with its chaos timer if it has one
---   loops_in q            the added edges
---   closed_in q T         the four lists by the plan
+--   marks_in q           the plan's marks
+--   timers_in q p        how many timers process p has of its own
+--   fate_in q T e        what becomes of the move of edge e
+--   freed_in q T e       whether e loses its guard
+--   edge_in q T e        what e becomes
+--   process_in q p r     process p, whose record means r, with its chaos timer if it has one
+--   loops_in q           the added edges
+--   closed_in q T        the four lists by the plan
 --   layered q T          what the layer means: those lists if the plan is on, else the table below
 use Rattle.std.specs.Prelude.{ℕ, Bool, false, cond, ◌&&◌, List, ◌++◌, map, length, take, nat_le, nat_lt, slice_index}
 use Rattle.closing.specs.declared.plan.Plan.{Plan}

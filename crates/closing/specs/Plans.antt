@@ -1,9 +1,9 @@
 -- Plans for a table.
 --   Planned T M q        the plan q is for the table T under the marks M
---   ninth_in q p          by the plan, the chaos timer of process p would be its ninth timer
+--   ninth_in q p         by the plan, the chaos timer of process p would be its ninth timer
 --   timers_refused_in, count_refused_in   13 and 14 by the plan
---   room_refused q T      the first of them
---   test_refused_in q T    why the test refuses, by the plan
+--   room_refused q T     the first of them
+--   test_refused_in q T  why the test refuses, by the plan
 use Rattle.std.specs.Prelude.{◌≡◌, ℕ, ◌+◌, ◌<◌, ◌≤◌, min, Bool, cond, ◌&&◌, length, Some, None, Option, nat_le, nat_lt}
 use Rattle.std.specs.Option.{option_or, option_map}
 use Rattle.closing.specs.Layers.{marks_in, timers_in}

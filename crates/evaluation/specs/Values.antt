@@ -12,7 +12,7 @@
 --   single s              the one value of s; None where there is none or more than one
 --   after o f             f of the stack o; None where there is none
 --   evaluated vars ts s   the one value that the terms ts leave, begun with the stack s
---   value_of vars ts s     the value of the expression in the part s of the terms ts: 1 to 16 terms, all within ts
+--   value_of vars ts s    the value of the expression in the part s of the terms ts: 1 to 16 terms, all within ts
 --   nonzero o             there is a value, and it is not 0
 --   holds vars ts s       the guard in the part s of the terms ts is true; one that is not well formed has no value, so it is false
 --   shown items depth     the stack that lies in the first `depth` of the items, the last of them on top

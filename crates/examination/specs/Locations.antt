@@ -1,5 +1,5 @@
 -- Flags of locations, one for each location of eight processes of sixteen.
---   has_at fs p l     location l of process p has its flag in fs
+--   has_at fs p l    location l of process p has its flag in fs
 --   noted fs p l     fs with the flag of that location raised, if there is such a location
 --   passes s e       the edge e is of the sort s
 --   agree a b        the two answers are the same

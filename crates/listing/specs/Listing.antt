@@ -1,13 +1,13 @@
 -- The listing of the marks of a sheet, as text.
---   each_from f i n       what f gives for the n numbers from i on, one after the other
+--   each_from f i n      what f gives for the n numbers from i on, one after the other
 --   line p l c n         a line: process, location, and the instance as its letter c and number
---   instance_text m ..    that line where the instance is marked, else nothing
+--   instance_text m ..   that line where the instance is marked, else nothing
 --   letter s, is_marked s M   the letter of a sort of instances, and its marks
---   sort_text s M p l n   the line of variable or timer n
+--   sort_text s M p l n  the line of variable or timer n
 --   location_text M r p l the lines of location l of process p, whose record is r: variables, then timers
---   listing_text T M      the lines of the table T in order, then the count of marks and of instances
---   refused_text r        a refusal on a line of its own
---   refused_by bs         the refusal of the sheet bs: that of opening it, else that of its table's examination
+--   listing_text T M     the lines of the table T in order, then the count of marks and of instances
+--   refused_text r       a refusal on a line of its own
+--   refused_by bs        the refusal of the sheet bs: that of opening it, else that of its table's examination
 --   MarkedOf o T M       the sheet was opened as o: T is its table, and M are the least marks of that
 --   Judged bs j          the view and marks j are of the sheet bs
 --   Listed bs text       text says why the sheet bs is refused, or else lists the least marks of its table

@@ -1,14 +1,14 @@
 -- Rows of added edges.
---   loop_edge x          the edge that the loop x is
+--   loop_edge x         the edge that the loop x is
 --   Holds items n es    the items are the first of the edges es, as many as fit, and n is how many there are in all
---   timer_edges m h ..   what is added for a timer: nothing unless it is marked (m); a timeout unless an edge handles it (h); a rearm
---   chaos_edges c ..     what is added for a chaos timer, if there is one (c)
---   at_spot ..           what is added at a location, by its spot
---   spot_timers ..       that of its first n timers
+--   timer_edges m h ..  what is added for a timer: nothing unless it is marked (m); a timeout unless an edge handles it (h); a rearm
+--   chaos_edges c ..    what is added for a chaos timer, if there is one (c)
+--   at_spot ..          what is added at a location, by its spot
+--   spot_timers ..      that of its first n timers
 --   Shape               how many locations and timers a process has, as far as they may be
 --   shape r             the shape of the process r
---   of_process ..        what is added to a process of a shape
---   added_by ..          what is added to the processes, at most eight
+--   of_process ..       what is added to a process of a shape
+--   added_by ..         what is added to the processes, at most eight
 use Rattle.std.specs.Prelude.{◌≡◌, ℕ, min, Bool, cond, List, [], ◌∷◌, ◌++◌, map, length, take, slice_index_or}
 use Rattle.std.specs.List.{range_with_len, flat_map}
 use Rattle.loops.specs.declared.row.Loop.{Loop}

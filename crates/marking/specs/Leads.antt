@@ -7,9 +7,9 @@
 --   fed T e               what a marked value of e marks: a variable, a timer or an internal signal
 --   seeds T e             what e marks by itself: the variable of an input of an inbound signal
 --   passed b e            bit b where e ends, unless e touches it
---   fed_by T b e           what the value of e marks, if it mentions variable b
---   from_instance T i e    what e marks where the variable or timer i is marked, if e leaves its location
---   from_signal s e        the variable of an input of signal s
+--   fed_by T b e          what the value of e marks, if it mentions variable b
+--   from_instance T i e   what e marks where the variable or timer i is marked, if e leaves its location
+--   from_signal s e       the variable of an input of signal s
 --   leads T i e           what e marks where node i is marked
 use Rattle.std.specs.Prelude.{ℕ, ◌+◌, ◌-◌, ◌*◌, ◌/◌, ◌%◌, Bool, true, false, cond, not, ◌&&◌, List, [], ◌∷◌, ◌++◌, Some, None, Option, ◌==◌, nat_lt}
 use Rattle.table.specs.Expressions.{part, mentions}

@@ -1,6 +1,6 @@
 -- Instances: a variable or a timer at a location of its process.
---   of_process p    how many instances the process p has
---   process_at T p  process p, blank where there is none
+--   of_process p   how many instances the process p has
+--   process_at T p   process p, blank where there is none
 --   own T          the marks of every instance of the table T, and of nothing else
 use Rattle.std.specs.Prelude.{ℕ, ◌+◌, ◌*◌, ◌&&◌, nat_lt, slice_index_or}
 use Rattle.table.specs.Edges.{blank}

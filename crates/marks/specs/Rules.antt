@@ -1,10 +1,10 @@
 -- The rules of marking, for a table of lists T and marks M. The names that end in As take the kind or the class as an argument.
 --   Marking              marks: of each variable and each timer, by process, location and index
 --   indices              the numbers that a variable may have
---   is_output k           edges of kind k are outputs
---   class_at T s          the class of signal s, absent where there is none
+--   is_output k          edges of kind k are outputs
+--   class_at T s         the class of signal s, absent where there is none
 --   marked T M e s       the expression s of edge e mentions a variable that is marked where e begins
---   signal_marked T M s   some output of signal s has a marked value
+--   signal_marked T M s  some output of signal s has a marked value
 --   arrives T M s        an input of signal s brings a marked value: s is inbound, or internal and marked
 --   stores e v           the edge e stores variable v: an input, unless it drops its value, or an assignment
 --   turns e n            the edge e sets, resets, times out or rearms timer n

@@ -1,9 +1,9 @@
 -- Marks as words of 16 bits, one for each location: variable n is bit n, timer n is bit 8 + n.
 --   bit w n           bit n of the word w is set
---   word_at ws p l     the word of location l of process p: the words ws have 16 for each of 8 processes
---   marks_in ws        the marks in the words
+--   word_at ws p l    the word of location l of process p: the words ws have 16 for each of 8 processes
+--   marks_in ws       the marks in the words
 --   marking m         the marks in the words of m
---   sum_below n f      f 0 + .. + f (n - 1)
+--   sum_below n f     f 0 + .. + f (n - 1)
 --   one b             1 where b holds, else 0
 --   total M           how many variables and timers are marked at the locations of 8 processes
 use Rattle.std.specs.Prelude.{ℕ, zero, suc, ◌+◌, ◌*◌, ◌/◌, ◌%◌, ◌^◌, Bool, cond, ◌&&◌, List, ◌==◌, nat_lt, slice_index}

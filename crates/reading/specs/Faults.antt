@@ -1,5 +1,5 @@
 -- The number, layer and place of every refusal of a sheet.
---   sheet_refusal f     an edge's refusal stays whole, with the first bit of the edge's record beside it
+--   sheet_refusal f    an edge's refusal stays whole, with the first bit of the edge's record beside it
 use Rattle.std.specs.Prelude.{Some}
 use Rattle.reading.specs.declared.fault.EdgeAt.{EdgeAt}
 use Rattle.reading.specs.declared.fault.SheetFault.{SheetFault}

@@ -6,8 +6,8 @@
 --   fault n p            refusal n at bit p
 --   Field                bits w v: w bits that write v; fill: zero bits up to the next whole byte
 --   Format A             reads bs p: the answer from bit p of bs on; writes x: the fields that x is written as
---   taken w least most r    reads w bits: refused with 1 where they are cut, and with r where their number is not least to most
---   field w least most n    one field of w bits, refused with 1 where it is cut, and with n where it is not least to most
+--   taken w least most r   reads w bits: refused with 1 where they are cut, and with r where their number is not least to most
+--   field w least most n   one field of w bits, refused with 1 where it is cut, and with n where it is not least to most
 --   plain w              one field of w bits, at most 16, with any content
 --   signed               16 bits, two's complement
 --   via to from f        f with its values renamed

@@ -1,13 +1,13 @@
 -- The layout of a sheet, field by field in the order of the bits. A field is given by its width, the least
 -- and the most that it may hold, and the number of its refusal.
---   counts_of T          how many processes, signals, edges and terms, as the header says it
+--   counts_of T         how many processes, signals, edges and terms, as the header says it
 --   Contents            what a sheet holds: its table, and its names, those of the processes first
---   timer_of on n        the timer that the two fields give
---   on_bit, ticks        the two fields of a timer
+--   timer_of on n       the timer that the two fields give
+--   on_bit, ticks       the two fields of a timer
 --   header_format, timer_format, process_format, signal_format n (in a sheet of n processes), span_format,
 --   edge_format, term_format, name_format
 --   destination m c     the destination of a signal of class c in a sheet of m processes
---   sheet_format         the whole sheet
+--   sheet_format        the whole sheet
 use Rattle.std.specs.Prelude.{ℕ, ◌+◌, ◌-◌, cond, List, length, ◌==◌, nat_le}
 use Rattle.reading.specs.Formats.{Format, field, plain, signed, then, done, many, filled, ended}
 use Rattle.reading.specs.declared.records.Counts.{Counts}

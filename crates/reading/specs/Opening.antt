@@ -1,10 +1,10 @@
 -- What opening a sheet answers, for every byte string.
---   process_bits p      how many bits a process takes
---   processes_bits ps   how many the processes ps take
---   edges_bit T         the bit at which the edge records begin
+--   process_bits p     how many bits a process takes
+--   processes_bits ps  how many the processes ps take
+--   edges_bit T        the bit at which the edge records begin
 --   edge_refused_at T b k e   the refusal of edge k, if it is wrong, where the records begin at bit b
---   bad_edge T          the refusal of the first wrong edge, with the first bit of its record
---   names_byte T        the byte at which the names begin
+--   bad_edge T         the refusal of the first wrong edge, with the first bit of its record
+--   names_byte T       the byte at which the names begin
 --   placed a ts        the names ts with the bytes at which their characters begin, the first length byte being byte a
 --   Opened             an opened sheet: its table, and the names of its processes and of its signals, each with its place
 --   split T names      the names of the processes come first

@@ -3,9 +3,9 @@
 --   Moves r p n q         a reader went from bit p to bit q: by n bits, or at most that many where it refuses
 --   Stays r q             a reader that refuses stands at the first bit of the field it refuses
 --   Reads f means s r t   a reader in state s returned r and is in state t then: the answer is that of f, and the bytes are the same
---   value_or a d           the value of an answer, or d
---   read_at f d bs p       what f reads at bit p of bs, or d where it refuses
---   row_at f d bs p w n    n such values, each w bits behind the one before
+--   value_or a d          the value of an answer, or d
+--   read_at f d bs p      what f reads at bit p of bs, or d where it refuses
+--   row_at f d bs p w n   n such values, each w bits behind the one before
 use Rattle.std.specs.Prelude.{◌≡◌, ℕ, ◌+◌, ◌*◌, ◌≤◌, List, map, Ok, Err, Result}
 use Rattle.std.specs.List.{range_with_len}
 use Rattle.reading.specs.Faults.{sheet_refusal}

@@ -1,12 +1,12 @@
 -- What lies at given places of a sheet's bytes.
---   no_edge, no_term      what is read where the bytes end too soon; an opened sheet has no such place
---   text_at bs a         the characters of the name whose length byte is byte a of bs
---   next_name bs a       the byte behind that name
---   name_start bs a k    the length byte of the k-th name from byte a on
---   texts_at bs a n      n names from byte a on
---   named_at bs a n      the same with their places
+--   no_edge, no_term    what is read where the bytes end too soon; an opened sheet has no such place
+--   text_at bs a        the characters of the name whose length byte is byte a of bs
+--   next_name bs a      the byte behind that name
+--   name_start bs a k   the length byte of the k-th name from byte a on
+--   texts_at bs a n     n names from byte a on
+--   named_at bs a n     the same with their places
 --   processes_from bs ps   the processes whose records begin at the bits ps
---   signals_from bs p m n, edges_from bs p n, terms_from bs p n      the n records from bit p on, the signals in a sheet of m processes
+--   signals_from bs p m n, edges_from bs p n, terms_from bs p n   the n records from bit p on, the signals in a sheet of m processes
 use Rattle.std.specs.Prelude.{ℕ, zero, suc, ◌+◌, List, map, take, drop, pos, slice_index}
 use Rattle.std.specs.List.{range_with_len}
 use Rattle.reading.specs.Layout.{process_format, signal_format, edge_format, term_format}

@@ -1,8 +1,8 @@
 -- The number, layer and place of every refusal of an edge and of a table.
 --   refusal n l p      refusal n of layer l at place p, met outside a sheet
---   edge_number f       the number of an edge's fault
---   edge_refusal b      an edge's refusal: its place is the edge's number
---   table_refusal f     a table's refusal
+--   edge_number f      the number of an edge's fault
+--   edge_refusal b     an edge's refusal: its place is the edge's number
+--   table_refusal f    a table's refusal
 --   outcome told r     None where r is accepted, and the refusal as `told` tells it
 --   first ts           the first of the numbered tests ts that applies
 use Rattle.std.specs.Prelude.{ℕ, Bool, cond, List, [], ◌∷◌, Some, None, Ok, Err, Option, Result}

@@ -1,7 +1,7 @@
 -- How a refusal is written.
---   layer_text l      the layer's name
---   place_text p      one number, or a process and a location
---   refusal_text r    `refused`, number, layer and place; one met inside a sheet ends with `sheet` and the bit
+--   layer_text l     the layer's name
+--   place_text p     one number, or a process and a location
+--   refusal_text r   `refused`, number, layer and place; one met inside a sheet ends with `sheet` and the bit
 use Rattle.std.specs.Prelude.{ℕ, List, [], ◌++◌, Some, None, codes, decimal, Option}
 use Rattle.refusal.specs.declared.fault.Layer.{Layer}
 use Rattle.refusal.specs.declared.fault.Layer.TheVariants.{Sheet, Edge, Table, Test, Book, State, Output}

@@ -17,7 +17,7 @@ use Rattle.rules.proofs.Ticks.{after-append, taken-append, next-taken, tick-take
 use Rattle.rules.proofs.Twins.{Twin, Alike, visible-same}
 use Rattle.rules.specs.Closing.{chaotic, with_chaos, closed, closed_edge, test_refused, timeout}
 use Rattle.rules.specs.Matching as Matching
-use Rattle.rules.specs.Matching.{visible, after, one, is_tick, is_offer, ticks, AllTaken, ClosedRun, Matches, number_of, rearms, head_inside, shadow_taken, shadow, shadow_run, shadow_points, run_of, points_of, Stands-in, Verdict}
+use Rattle.rules.specs.Matching.{visible, after, one, is_tick, is_offer, ticks, AllTaken, ClosedRun, Matches, number_of, rearms, head_inside, shadow_taken, shadow, shadow_run, shadow_points, run_of, points_of, StandsIn, Verdict}
 use Rattle.rules.specs.States.{World, idle, at, padded, begun, started, lacking, places_refused, start_refused, is_inbound, goal}
 use Rattle.rules.specs.Steps.{no_edge, edge_at, enabled, sends, full, discards, expires, rests, restless, state_at, state_refused, move_tests, call_refused, step_refused, accepts, move_effect, effect, next}
 use Rattle.rules.specs.declared.step.Step.{Step}
@@ -315,7 +315,7 @@ module _ (T : Lists) (M : Marking) (tested : test_refused T M ≡ None) (obeys :
       less_zero : (n : ℕ) → n - 0 ≡ n
       less_zero n = omega arith
 
-  pub stands-in : Stands-in T M
+  pub stands-in : StandsIn T M
   stands-in = record { begins = closed-starts; matches = matching }
 
   pub verdict : Verdict T M

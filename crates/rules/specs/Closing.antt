@@ -1,23 +1,23 @@
 -- The closed table of a table T whose marks are M.
 --   invites T e          e is an input of an inbound signal
 --   chaotic T p          some edge of process p is one, so that p gains a chaos timer
---   closed_process T p r  process p, record r, with its chaos timer, first on(0), behind its own
---   closed_signal s       inbound and outbound signals become absent
+--   closed_process T p r   process p, record r, with its chaos timer, first on(0), behind its own
+--   closed_signal s      inbound and outbound signals become absent
 --   Fate                 what becomes of an edge's move: it stays, waits for chaos, is skipped, or loses its value
 --   fate T M e           what becomes of e
 --   freed T M e          the guard of e goes: it is marked, or e is an else beside a marked guard
 --   kind_under, first_under, second_under, value_under   the fields of an edge under its fate
 --   changed f b c e      e under the fate f, without its guard if b; c is the chaos timer of its process
---   closed_edge T M e     what e becomes
+--   closed_edge T M e    what e becomes
 --   loop p l k n m       an edge of kind k from location l of process p to l, with first n and second m
 --   timer_loops T M p l n what is added at l for its own timer n: a timeout where no edge at l handles n, and a rearm to 1
---   chaos_loops T p l     what is added at l for the chaos timer
---   added_at T M p l      what is added at location l of process p
+--   chaos_loops T p l    what is added at l for the chaos timer
+--   added_at T M p l     what is added at location l of process p
 --   added T M            what is added, by process, waiting location and timer
 --   closed T M           the closed table
 --   ninth T p            the chaos timer of process p would be its ninth timer
---   test_refused T M      why the test refuses: the examination, 13, 14
---   closed_by T M         what closing means: the closed table, or where the test refuses the table as it is
+--   test_refused T M     why the test refuses: the examination, 13, 14
+--   closed_by T M        what closing means: the closed table, or where the test refuses the table as it is
 use Rattle.std.specs.Prelude.{ℕ, ◌+◌, Bool, false, cond, ◌&&◌, List, [], ◌∷◌, ◌++◌, map, length, is_some, Some, None, Option, ◌==◌, nat_le, nat_lt}
 use Rattle.std.specs.List.{range_with_len, flat_map}
 use Rattle.std.specs.Option.{option_or, option_map}

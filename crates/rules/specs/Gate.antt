@@ -1,7 +1,7 @@
 -- The worked example, closed and run.
---   gate_marks        its marks: x0 everywhere, and tx's t0
---   gate_closed       the closed table
---   open_trace, closed_trace    a run of the open table, and the closed run that matches it
+--   gate_marks       its marks: x0 everywhere, and tx's t0
+--   gate_closed      the closed table
+--   open_trace, closed_trace   a run of the open table, and the closed run that matches it
 --   failing W        the calls of a trace that are refused
 use Rattle.std.specs.Prelude.{◌≡◌, List, [], ◌∷◌, ◌++◌, length, replicate, pos, Some, None, slice_index_or}
 use Rattle.marks.specs.Rules.{Marking}

@@ -7,18 +7,18 @@
 --   after T W cs         the world after the calls cs, refused ones included
 --   taken T W cs         how many of the calls are accepted; ticks T W cs: how many of those are ticks
 --   AllTaken T W cs      every one of the calls is accepted
---   is_offer c            the call is an offer
+--   is_offer c           the call is an offer
 --   ClosedRun C room run the run is accepted from the start of C, and has no offer
 --   Matches ..           the run matches the open calls cs: the points, one for each call and none before an earlier one's, say how far
 --                        the run has come where the call is done; there both worlds tell the same; and the run is no longer by then
 --                        than the calls accepted so far, and 64 steps more for each tick among them
---   same_edge, position   an edge's number among the added ones
---   number_of T M e       the number of the added edge e in the closed table
+--   same_edge, position  an edge's number among the added ones
+--   number_of T M e      the number of the added edge e in the closed table
 --   rearms T M V p ns    the rearms of those timers ns of process p that are at on(0) in V
 --   shadow T M W V c     the closed steps that match the call c, the open world being W and the closed one V
 --   shadow_run, shadow_points   those of a list of calls, and how far they come, from n on
---   run_of, points_of      the same from the starts
---   Stands-in T M        whatever calls are made of the open table, that closed run matches them
+--   run_of, points_of    the same from the starts
+--   StandsIn T M         whatever calls are made of the open table, that closed run matches them
 --   Verdict T M          what holds of all that closed runs can tell holds of all that open runs tell
 use Rattle.std.specs.Prelude.{◌≡◌, ℕ, suc, ◌+◌, ◌*◌, ◌<◌, ◌≤◌, Bool, true, false, cond, ◌&&◌, List, [], ◌∷◌, ◌++◌, map, length, take, ℤ, pos, Some, None, fold, Option, ◌==◌, slice_index, slice_index_or}
 use Rattle.std.specs.List.{range_with_len, flat_map, filter}
@@ -173,7 +173,7 @@ points_of T M room cs = shadow_points T M (started T room) (started (closed T M)
 
 -- the promise
 
-pub record Stands-in (T : Lists) (M : Marking) : Type 0 where
+pub record StandsIn (T : Lists) (M : Marking) : Type 0 where
   pub begins : (room : ℕ) → start_refused T room ≡ None → start_refused (closed T M) room ≡ None
   pub matches : (room : ℕ) → start_refused T room ≡ None → (cs : List Step) → Matches T M (closed T M) room cs (run_of T M room cs) (points_of T M room cs)
 

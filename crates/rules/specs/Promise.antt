@@ -8,7 +8,7 @@ use Rattle.std.specs.Prelude.{◌≡◌, ℕ, None, Result}
 use Rattle.marks.specs.Rules.{Marking, Least}
 use Rattle.refusal.specs.declared.fault.Refusal.{Refusal}
 use Rattle.rules.specs.Closing.{closed_by, closed_count, test_refused}
-use Rattle.rules.specs.Matching.{Stands-in, Verdict}
+use Rattle.rules.specs.Matching.{StandsIn, Verdict}
 use Rattle.rules.specs.Steps.{answer}
 use Rattle.table.specs.Examination.{examined}
 use Rattle.table.specs.Lists.{Lists}
@@ -20,12 +20,12 @@ pub record Tests (T : Lists) (o : Result ℕ Refusal) : Type 0 where
   pub marks : Marking
   pub least : Marked T marks
   pub says : o ≡ answer (test_refused T marks) (closed_count T marks)
-  pub stands_in : test_refused T marks ≡ None → Stands-in T marks
+  pub stands_in : test_refused T marks ≡ None → StandsIn T marks
   pub verdict : test_refused T marks ≡ None → Verdict T marks
 
 pub record Closes (T C : Lists) : Type 0 where
   pub marks : Marking
   pub least : Marked T marks
   pub meaning : C ≡ closed_by T marks
-  pub stands_in : test_refused T marks ≡ None → Stands-in T marks
+  pub stands_in : test_refused T marks ≡ None → StandsIn T marks
   pub verdict : test_refused T marks ≡ None → Verdict T marks

@@ -7,13 +7,13 @@
 --   started T room     the world after a start
 --   lacking room p     the memory has fewer than the 16 × (p + 1) places that reach to the end of queue p
 --   places_refused T room   18 at the first process whose queue places are missing
---   start_refused T room    why a start is refused: the examination, then 18
+--   start_refused T room   why a start is refused: the examination, then 18
 --   is_inbound, is_internal, is_outbound   of a class
 --   goal T s           the destination of signal s
 --   due t              the timer t is at on(0)
 --   waiting T p l      location l of process p is waiting: no acting edge leaves it
 --   handles n e        the edge e is a timeout or a rearm of timer n
---   takes_signal s e    the edge e is an input of signal s
+--   takes_signal s e   the edge e is an input of signal s
 --   numbered f i xs    f of each of xs with its number, the first being number i
 use Rattle.std.specs.Prelude.{ℕ, ◌+◌, ◌*◌, Bool, true, false, not, ◌&&◌, List, [], ◌∷◌, ◌++◌, map, length, get_or, take, replicate, ℤ, pos, Option, ◌==◌, nat_lt, slice_index_or}
 use Rattle.std.specs.Option.{option_or, option_map}

@@ -2,8 +2,8 @@
 --   scope T p r        the variables of process p that the table T gives it
 --   passing vars ts e  the guard of e is an expression, and true
 --   allowed T vars e   the guard of e is true: absent, non-zero, or an else where nothing at the location is unguarded or passes
---   value_in T vars e   the value of e; 0 where it is empty
---   kind_ready k r e    what an edge of kind k needs of its process: its signal at the head, or its timer at on(0)
+--   value_in T vars e  the value of e; 0 where it is empty
+--   kind_ready k r e   what an edge of kind k needs of its process: its signal at the head, or its timer at on(0)
 --   ready T r e        r is where e begins, the guard is true, and its kind is ready
 --   enabled T W e      the edge breaks none of 7 to 10, and is ready
 --   sends T e          e is an output of an internal signal
@@ -11,9 +11,9 @@
 --   discards T W p     the head of p's queue can be dropped
 --   expires T W p n    timer n of p can be turned off
 --   rests T p r        r waits, has no message, and no timer of its own is at on(0)
---   state_refused T W   18: the count of processes or the table's limits, then the first process without its location or queue places
---   call_refused T W c  19, 20 and 21 of a call, in this order
---   step_refused T W c  the first refusal of a call
+--   state_refused T W  18: the count of processes or the table's limits, then the first process without its location or queue places
+--   call_refused T W c   19, 20 and 21 of a call, in this order
+--   step_refused T W c   the first refusal of a call
 --   moved k v e r      r after a move along e of kind k
 --   put, deliver       a world with a process replaced, or with a message appended at one
 --   effect T W c       what an accepted call makes of the world W

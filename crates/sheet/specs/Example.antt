@@ -1,6 +1,6 @@
 -- The worked example: its 104 bytes and what they hold.
 --   gate             the bytes
---   gate_opened       its table and its names with their places
+--   gate_opened      its table and its names with their places
 --   Refuses          what is said of it with a byte changed
 --   Opens            the bytes open to that; a byte less gives 1 at bit 824, a byte more 5 at bit 832, none 1 at bit 0
 use Rattle.std.specs.Prelude.{◌≡◌, ℕ, List, [], ◌∷◌, ◌++◌, take, ℤ, pos, Some, Ok, Err, codes, Result, slice_set}

@@ -1,10 +1,10 @@
 -- What a view of a sheet means.
---   bytes_of s           the bytes it lies in
---   lists_of s           the table that the view s means
---   texts_of s           the names, as the layout has them
---   contents_of s        that table with those names
---   names_of s           the names with their places
---   opened_of s          the table, and the names of processes and of signals with their places
+--   bytes_of s          the bytes it lies in
+--   lists_of s          the table that the view s means
+--   texts_of s          the names, as the layout has them
+--   contents_of s       that table with those names
+--   names_of s          the names with their places
+--   opened_of s         the table, and the names of processes and of signals with their places
 --   heard r             a name that was answered: its place, and what lies there
 use Rattle.std.specs.Prelude.{ℕ, ◌+◌, List, take, drop, Some, None, Option}
 use Rattle.std.specs.Borrow.{Bor}

@@ -1,12 +1,12 @@
 -- What the edges of a table say of its locations and processes.
 --   hits M e t           the term t reads a variable that M marks where the edge e begins
 --   nowhere              a location of which nothing is known
---   spot_at ss p l        the spot of location l of process p
---   chaotic_at cs p       process p is noted as chaotic
+--   spot_at ss p l       the spot of location l of process p
+--   chaotic_at cs p      process p is noted as chaotic
 --   turned e             the word with the bit of the timer that e times out or rearms
---   noted_spot b e s      the spot s with what e says of it, b being whether its guard is marked
---   noted_spots b e ss    the spots with what e says of where it begins
---   noted_chaos b e cs    the processes with that of e chaotic, if b
+--   noted_spot b e s     the spot s with what e says of it, b being whether its guard is marked
+--   noted_spots b e ss   the spots with what e says of where it begins
+--   noted_chaos b e cs   the processes with that of e chaotic, if b
 --   Surveyed ..          spots and processes are just as the edges es of the table T with the marks M make them
 use Rattle.std.specs.Prelude.{◌≡◌, ℕ, ◌+◌, ◌*◌, ◌^◌, ◌<◌, Bool, true, false, cond, ◌&&◌, ◌||◌, List, ℤ, pos, negsuc, ◌==◌, bit_or, nat_lt, slice_index_or, slice_set}
 use Rattle.marks.specs.Rules.{Marking}

@@ -1,13 +1,13 @@
 -- The check of an edge, against the four lists of its table.
 --   blank            a process that is not there: it has no location
 --   absent           a signal that is not there
---   proc_at T e       the edge's process
+--   proc_at T e      the edge's process
 --   missing T e      a process, location, variable, timer or signal of e is not there
 --   unfit T e        the signal of an input or output is of the wrong class, or goes to another process
 --   malformed e      kind, mode or rearm number unknown, a guard where none is allowed, or an unused field that is not zero
 --   untrue T e       the guard or the value is no expression
---   edge_tests T e    the four tests with their numbers, in the order in which they are read
---   edge_fault T e    the number under which e is refused, if it is
+--   edge_tests T e   the four tests with their numbers, in the order in which they are read
+--   edge_fault T e   the number under which e is refused, if it is
 use Rattle.std.specs.Prelude.{ℕ, Bool, true, false, not, ◌&&◌, ◌||◌, List, [], ◌∷◌, length, Option, ◌==◌, nat_le, nat_lt, slice_index_or}
 use Rattle.table.specs.Expressions.{sound}
 use Rattle.table.specs.Lists.{Lists, Proc}

@@ -1,15 +1,15 @@
 -- The examination of a table: number, layer and place of the first refusal that applies.
---   answer_at f i o       what f answers of the element o with the number i, if it is there
---   first_at f i xs       the first answer that f gives in xs, whose first element has the number i
---   first_from h i n      the first of the n numbers from i on that h hits
---   too_many T            a list beyond its limit
---   bad_process p         a count beyond its limit, no location, or a first location or timer that cannot be
---   bad_signal n s        in a table of n processes: a class beyond the known ones, a missing destination, or an unused one not zero
+--   answer_at f i o      what f answers of the element o with the number i, if it is there
+--   first_at f i xs      the first answer that f gives in xs, whose first element has the number i
+--   first_from h i n     the first of the n numbers from i on that h hits
+--   too_many T           a list beyond its limit
+--   bad_process p        a count beyond its limit, no location, or a first location or timer that cannot be
+--   bad_signal n s       in a table of n processes: a class beyond the known ones, a missing destination, or an unused one not zero
 --   leaves p l f e       the edge e leaves location l of process p and passes f
 --   acts, waits, frees   an edge that makes its location acting; one that does not; one that is unguarded or else
 --   some T f p l         some edge that passes f leaves location l of process p
 --   mixed, stuck         the two tests of a location
---   first_location h ps   the first location that h hits, process by process
+--   first_location h ps  the first location that h hits, process by process
 --   examined T           the first of 3, then 7 to 10 by edge, 11, 12
 use Rattle.std.specs.Prelude.{ℕ, zero, suc, ◌+◌, Bool, true, false, cond, not, ◌&&◌, ◌||◌, List, [], ◌∷◌, length, Some, None, Option, ◌==◌, nat_le, nat_lt}
 use Rattle.std.specs.Option.{option_or, option_map}

@@ -1,6 +1,6 @@
 -- The worked example: a receiver rx gets requests from the surroundings and passes them to a transmitter tx.
 --   span s n, edge .., term o z, signal c d    records by their fields
---   gate_table        its four lists
+--   gate_table                                 its four lists
 use Rattle.std.specs.Prelude.{ℕ, [], ◌∷◌, ℤ, pos}
 use Rattle.table.specs.Lists.{Lists}
 use Rattle.table.specs.declared.record.Edge.{Edge}

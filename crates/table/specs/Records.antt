@@ -1,7 +1,7 @@
 -- What the numbers in a record say. Every number has a meaning; those beyond the known ones are `Unknown`.
---   kind_of n    what an edge of kind n does
---   class_of n   where a signal of class n comes from and goes to
---   mode_of n    when an edge of guard mode n may be taken
+--   kind_of n   what an edge of kind n does
+--   class_of n  where a signal of class n comes from and goes to
+--   mode_of n   when an edge of guard mode n may be taken
 --   operation_of n   what a term of operation n does
 use Rattle.std.specs.Prelude.{ℕ, cond, ◌==◌}
 use Rattle.table.specs.declared.record.Kind.{Kind}
