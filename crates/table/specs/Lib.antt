@@ -4,3 +4,4 @@ pub mod Expressions
 pub mod Gate
 pub mod Lists
 pub mod Records
+pub mod Sites

@@ -1,7 +1,8 @@
 //! Postfix expressions: which variables one mentions, whether it is well formed, and its value.
-ghost use Rattle.std.specs.Prelude.{◌≡◌, ◌^◌, ◌<◌};
+ghost use Rattle.std.specs.Prelude.{◌≡◌, ◌+◌, ◌^◌, ◌<◌, ◌&&◌, Bool, length, nat_le};
+ghost use Rattle.table.specs.declared.record.Term.{Term};
 ghost use Rattle.table.specs.Records.{operation_of};
-ghost use Rattle.table.specs.Expressions.{part, mentions, reads, operands, fitting, depth_after, formed, sound};
+ghost use Rattle.table.specs.Expressions.{part, any, mentions, reads, operands, fitting, depth_after, formed, sound};
 
 use crate::limits;
 use crate::questions::Table;
@@ -11,7 +12,7 @@ impl Term {
     pub fn reads(&self, variable: u8) -> bool
         ensures { result ≡ reads variable self.now }
     {
-        self.operation == 1 && self.argument == i16::from(variable)
+        self.does() == Operation::Variable && self.argument == i16::from(variable)
     }
 
     /// How many values the term takes before it gives one.
@@ -31,7 +32,7 @@ impl Term {
     {
         match self.does() {
             Operation::Number => true,
-            Operation::Variable => 0 <= self.argument && self.argument < i16::from(variables),
+            Operation::Variable => (0..i16::from(variables)).contains(&self.argument),
             Operation::Unknown => false,
             _ => self.argument == 0,
         }
@@ -55,30 +56,42 @@ impl Term {
 pub fn mentions<T: Table>(table: &T, span: Span, variable: u8) -> bool
     ensures { result ≡ mentions (part (T.lists table.now).terms span) variable }
 {
+    any_term(table, span, |term| term.reads(variable))
+}
+
+/// Whether some term of the span passes the test.
+pub fn any_term<T: Table, F: Fn(Term) -> bool>(table: &T, span: Span, test: F) -> bool
+    requires { F.IsAlwaysCallable test }
+    ensures { (f : Term → Bool) → ((t : Term) (b : Bool) → F.post test t b → b ≡ f t) → result ≡ any f (part (T.lists table.now).terms span) }
+{
     let start = usize::from(span.start);
     for i in start..start + usize::from(span.count) {
-        match table.term(i) {
-            None => return false,
-            Some(term) => {
-                if term.reads(variable) {
-                    return true;
-                }
-            }
+        let Some(term) = table.term(i) else {
+            return false;
+        };
+        if test(term) {
+            return true;
         }
     }
     false
 }
 
 /// Whether the part of the term list is a well-formed expression of a process with so many variables.
+#[tactic(auto, unfolding(crate::specs::Expressions::sound))]
 pub fn is_sound<T: Table>(table: &T, span: Span, variables: u8) -> bool
     ensures { result ≡ sound variables (T.lists table.now).terms span }
+{
+    is_there(table, span) && is_formed(table, span, variables)
+}
+
+/// Whether the span has as many terms as an expression may have, all of them in the term list.
+pub fn is_there<T: Table>(table: &T, span: Span) -> bool
+    ensures { result ≡ ((nat_le 1 span.count && nat_le span.count 16) && nat_le (span.start + span.count) (length (T.lists table.now).terms)) }
 {
     if span.count == 0 || span.count > limits::EXPRESSION {
         return false;
     }
-    let start = usize::from(span.start);
-    let end = start + usize::from(span.count);
-    end <= table.term_count() && is_formed(table, span, variables)
+    usize::from(span.start) + usize::from(span.count) <= table.term_count()
 }
 
 /// Whether every operation finds its operands and just one value remains.
@@ -88,13 +101,13 @@ fn is_formed<T: Table>(table: &T, span: Span, variables: u8) -> bool
     let start = usize::from(span.start);
     let mut depth = 0;
     for i in start..start + usize::from(span.count) {
-        match table.term(i) {
-            None => break,
-            Some(term) => match term.depth_after(variables, depth) {
-                None => return false,
-                Some(after) => depth = after,
-            },
-        }
+        let Some(term) = table.term(i) else {
+            break;
+        };
+        let Some(after) = term.depth_after(variables, depth) else {
+            return false;
+        };
+        depth = after;
     }
     depth == 1
 }

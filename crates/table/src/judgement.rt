@@ -12,10 +12,7 @@ impl Timer {
     fn is_too_long(&self) -> bool
         ensures { result ≡ too_long self.now }
     {
-        match self {
-            Timer::Off => false,
-            Timer::On(ticks) => *ticks > limits::TIME,
-        }
+        matches!(self, Timer::On(ticks) if *ticks > limits::TIME)
     }
 }
 
@@ -38,12 +35,8 @@ impl Process {
         requires { self.now.timers ≤ 8 }
         ensures { result ≡ any too_long (meant self.now).settings }
     {
-        for i in 0..usize::from(self.timers) {
-            if self.settings[i].is_too_long() {
-                return true;
-            }
-        }
-        false
+        let settings = &self.settings[..usize::from(self.timers)];
+        settings.iter().any(|timer| timer.is_too_long())
     }
 }
 
@@ -64,19 +57,16 @@ impl Edge {
     pub fn acts(&self) -> bool
         ensures { result ≡ acts self.now }
     {
-        match self.does() {
-            Kind::Output | Kind::Assignment | Kind::Set | Kind::Reset | Kind::Skip => true,
-            _ => false,
-        }
+        matches!(
+            self.does(),
+            Kind::Output | Kind::Assignment | Kind::Set | Kind::Reset | Kind::Skip
+        )
     }
 
     pub fn is_free(&self) -> bool
         ensures { result ≡ frees self.now }
     {
-        match self.guarded() {
-            Mode::Unguarded | Mode::Else => true,
-            _ => false,
-        }
+        matches!(self.guarded(), Mode::Unguarded | Mode::Else)
     }
 }
 
@@ -93,18 +83,12 @@ impl Kind {
     pub fn may_be_guarded(self) -> bool
         ensures { result ≡ guardable self }
     {
-        match self {
-            Kind::Input | Kind::Timeout | Kind::Rearm => false,
-            _ => true,
-        }
+        !matches!(self, Kind::Input | Kind::Timeout | Kind::Rearm)
     }
 
     pub fn has_value(self) -> bool
         ensures { result ≡ valued self }
     {
-        match self {
-            Kind::Output | Kind::Assignment | Kind::Set => true,
-            _ => false,
-        }
+        matches!(self, Kind::Output | Kind::Assignment | Kind::Set)
     }
 }

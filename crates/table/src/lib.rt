@@ -6,3 +6,4 @@ pub mod judgement;
 pub mod limits;
 pub mod questions;
 pub mod record;
+pub mod site;

@@ -1,9 +1,12 @@
 //! The questions by which every table is read.
 ghost use Rattle.std.specs.Prelude.{◌≡◌, ◌≤◌, length, IfSome, MatchBool, nat_lt, slice_index_or};
 ghost use Rattle.std.specs.List.{slice_get};
+ghost use Rattle.std.specs.Option.{option_map};
+ghost use Rattle.table.specs.Edges.{absent, blank};
 ghost use Rattle.table.specs.Lists.{Lists, meant};
+ghost use Rattle.table.specs.Records.{class_of};
 
-use crate::record::{Edge, Process, Signal, Term};
+use crate::record::{Class, Edge, Process, Signal, Term};
 
 /// A table, read by eight questions. None is refused and none changes anything; a place beyond the end of a list is
 /// answered as absent.
@@ -38,4 +41,31 @@ pub trait Table {
     fn term(&self, i: usize) -> Option<Term>
         ensures value { result ≡ slice_get (lists self.now).terms i }
         ensures bound { IfSome result (λ t. t.operation ≤ 15) };
+}
+
+/// Process p, if there is one.
+pub fn process_at<T: Table>(table: &T, p: usize) -> Option<Process>
+    ensures { option_map meant result ≡ slice_get (T.lists table.now).processes p }
+{
+    let mut process = Process::BLANK;
+    table.process(p, &mut process).then_some(process)
+}
+
+/// Process p, or a blank one where there is none.
+pub fn process_or_blank<T: Table>(table: &T, p: usize) -> Process
+    ensures { meant result ≡ slice_index_or (T.lists table.now).processes p blank }
+{
+    let mut process = Process::BLANK;
+    table.process(p, &mut process);
+    process
+}
+
+/// The class of a signal, absent where there is none.
+pub fn class_of<T: Table>(table: &T, signal: u8) -> Class
+    ensures { result ≡ class_of (slice_index_or (T.lists table.now).signals signal absent).class }
+{
+    table
+        .signal(usize::from(signal))
+        .unwrap_or(Signal::ABSENT)
+        .is()
 }

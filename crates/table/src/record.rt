@@ -3,7 +3,7 @@ ghost use Rattle.std.specs.Prelude.{◌≡◌};
 ghost use Rattle.table.specs.Records.{kind_of, class_of, mode_of, operation_of};
 
 /// A timer: off, or on with so many ticks to go.
-#[derive(Clone, Copy)]
+#[derive(Clone, Copy, Debug, PartialEq, Eq)]
 pub enum Timer {
     Off,
     On(u16),
@@ -20,20 +20,20 @@ pub struct Process {
     pub settings: [Timer; 8],
 }
 
-#[derive(Clone, Copy)]
+#[derive(Clone, Copy, Debug, PartialEq, Eq, Default)]
 pub struct Signal {
     pub class: u8,
     pub destination: u8,
 }
 
 /// A part of the term list.
-#[derive(Clone, Copy)]
+#[derive(Clone, Copy, Debug, PartialEq, Eq, Default)]
 pub struct Span {
     pub start: u16,
     pub count: u8,
 }
 
-#[derive(Clone, Copy)]
+#[derive(Clone, Copy, Debug, PartialEq, Eq, Default)]
 pub struct Edge {
     pub process: u8,
     pub from: u8,
@@ -46,14 +46,14 @@ pub struct Edge {
     pub value: Span,
 }
 
-#[derive(Clone, Copy)]
+#[derive(Clone, Copy, Debug, PartialEq, Eq, Default)]
 pub struct Term {
     pub operation: u8,
     pub argument: i16,
 }
 
 /// What an edge does.
-#[derive(Clone, Copy)]
+#[derive(Clone, Copy, Debug, PartialEq, Eq)]
 pub enum Kind {
     Input,
     Output,
@@ -67,7 +67,7 @@ pub enum Kind {
 }
 
 /// Where a signal comes from and goes to.
-#[derive(Clone, Copy)]
+#[derive(Clone, Copy, Debug, PartialEq, Eq)]
 pub enum Class {
     Internal,
     Inbound,
@@ -77,7 +77,7 @@ pub enum Class {
 }
 
 /// When an edge may be taken.
-#[derive(Clone, Copy)]
+#[derive(Clone, Copy, Debug, PartialEq, Eq)]
 pub enum Mode {
     Unguarded,
     Expression,
@@ -86,7 +86,7 @@ pub enum Mode {
 }
 
 /// What a term of a postfix expression does.
-#[derive(Clone, Copy)]
+#[derive(Clone, Copy, Debug, PartialEq, Eq)]
 pub enum Operation {
     Number,
     Variable,
@@ -111,11 +111,11 @@ impl Process {
     };
 }
 
-impl Term {
-    pub fn does(&self) -> Operation
-        ensures { result ≡ operation_of self.now.operation }
-    {
-        match self.operation {
+impl From<u8> for Operation {
+    ghost from_gives = { λ n o. o ≡ operation_of n };
+
+    fn from(number: u8) -> Operation {
+        match number {
             0 => Operation::Number,
             1 => Operation::Variable,
             2 => Operation::Sum,
@@ -129,11 +129,11 @@ impl Term {
     }
 }
 
-impl Edge {
-    pub fn does(&self) -> Kind
-        ensures { result ≡ kind_of self.now.kind }
-    {
-        match self.kind {
+impl From<u8> for Kind {
+    ghost from_gives = { λ n k. k ≡ kind_of n };
+
+    fn from(number: u8) -> Kind {
+        match number {
             0 => Kind::Input,
             1 => Kind::Output,
             2 => Kind::Assignment,
@@ -145,11 +145,13 @@ impl Edge {
             _ => Kind::Unknown,
         }
     }
+}
 
-    pub fn guarded(&self) -> Mode
-        ensures { result ≡ mode_of self.now.mode }
-    {
-        match self.mode {
+impl From<u8> for Mode {
+    ghost from_gives = { λ n m. m ≡ mode_of n };
+
+    fn from(number: u8) -> Mode {
+        match number {
             0 => Mode::Unguarded,
             1 => Mode::Expression,
             2 => Mode::Else,
@@ -158,21 +160,51 @@ impl Edge {
     }
 }
 
-impl Signal {
-    pub const ABSENT: Signal = Signal {
-        class: 3,
-        destination: 0,
-    };
+impl From<u8> for Class {
+    ghost from_gives = { λ n c. c ≡ class_of n };
 
-    pub fn is(&self) -> Class
-        ensures { result ≡ class_of self.now.class }
-    {
-        match self.class {
+    fn from(number: u8) -> Class {
+        match number {
             0 => Class::Internal,
             1 => Class::Inbound,
             2 => Class::Outbound,
             3 => Class::Absent,
             _ => Class::Unknown,
         }
+    }
+}
+
+impl Term {
+    pub fn does(&self) -> Operation
+        ensures { result ≡ operation_of self.now.operation }
+    {
+        self.operation.into()
+    }
+}
+
+impl Edge {
+    pub fn does(&self) -> Kind
+        ensures { result ≡ kind_of self.now.kind }
+    {
+        self.kind.into()
+    }
+
+    pub fn guarded(&self) -> Mode
+        ensures { result ≡ mode_of self.now.mode }
+    {
+        self.mode.into()
+    }
+}
+
+impl Signal {
+    pub const ABSENT: Signal = Signal {
+        class: Class::Absent as u8,
+        destination: 0,
+    };
+
+    pub fn is(&self) -> Class
+        ensures { result ≡ class_of self.now.class }
+    {
+        self.class.into()
     }
 }

@@ -2,10 +2,10 @@ use Rattle.std.proofs.Common.{◌+◌, arith}
 use Rattle.table.proofs.Windows.{window-whole}
 use Rattle.table.proofs.Forms.{formed-window-end, formed-window-none, formed-window-stops, formed-window-goes, depth-bound}
 use Rattle.table.proofs.expression.is_formed.Goals as goal
-use Rattle.table.proofs.expression.is_formed.Goals.{else-loop-i-test, then-loop-i-test+in-None}
+use Rattle.table.proofs.expression.is_formed.Goals.{else-loop-i-test, then-loop-i-test+in_default}
 
-pub returns-in-None-depth_after : goal.returns-in-None-depth_after
-returns-in-None-depth_after g c =
+pub returns-in_default-depth_after : goal.returns-in_default-depth_after
+returns-in_default-depth_after g c =
     let ts = (g.T.Table.lists c.args.table.now).terms in
     let a = formed-window-stops c.args.variables ts c.loop-i.i (c.from-start.result + c.from.result) c.loop-i.depth c.in-Some.term c.loop-i-test.true (cc) (cc) in
     let b = window-whole ts c.args.span.start c.args.span.count in
@@ -27,6 +27,6 @@ returns g c =
     elim c.loop-i-test.branch [
       | else-loop-i-test w ↦
           let a = formed-window-end c.args.variables ts c.loop-i.i (c.from-start.result + c.from.result) c.loop-i.depth w.loop-i-test.false in cc
-      | then-loop-i-test+in-None w ↦
+      | then-loop-i-test+in_default w ↦
           let a = formed-window-none c.args.variables ts c.loop-i.i (c.from-start.result + c.from.result) c.loop-i.depth (cc) in cc
     ]
