@@ -3,12 +3,17 @@
 --   word_at ws p l    the word of location l of process p: the words ws have 16 for each of 8 processes
 --   marks_in ws       the marks in the words
 --   marking m         the marks in the words of m
+--   first_bit s       the bit of the first instance of the sort s
+--   is_marked s M p l n   M marks the instance n of the sort s at location l of process p
+--   letter s          how the sort s is written
 --   sum_below n f     f 0 + .. + f (n - 1)
 --   one b             1 where b holds, else 0
 --   total M           how many variables and timers are marked at the locations of 8 processes
-use Rattle.std.specs.Prelude.{ℕ, zero, suc, ◌+◌, ◌*◌, ◌/◌, ◌%◌, ◌^◌, Bool, cond, ◌&&◌, List, ◌==◌, nat_lt, slice_index}
+use Rattle.std.specs.Prelude.{ℕ, zero, suc, ◌+◌, ◌*◌, ◌/◌, ◌%◌, ◌^◌, Bool, cond, ◌&&◌, List, codes, ◌==◌, nat_lt, slice_index}
 use Rattle.marks.specs.Rules.{Marking}
 use Rattle.marks.specs.declared.marks.Marks.{Marks}
+use Rattle.marks.specs.declared.marks.Sort.{Sort}
+use Rattle.marks.specs.declared.marks.Sort.TheVariants.{Variable, Timer}
 
 unfoldable pub bit : ℕ → ℕ → Bool
 bit w n = w / 2 ^ n % 2 == 1
@@ -24,6 +29,18 @@ marks_in ws = record {
 
 abbrev pub marking : Marks → Marking
 marking m = marks_in m.words
+
+abbrev pub first_bit : Sort → ℕ
+first_bit Variable = 0
+first_bit Timer = 8
+
+abbrev pub is_marked : Sort → Marking → ℕ → ℕ → ℕ → Bool
+is_marked Variable M = M.variable
+is_marked Timer M = M.timer
+
+abbrev pub letter : Sort → List ℕ
+letter Variable = codes "x"
+letter Timer = codes "t"
 
 unfoldable pub sum_below : ℕ → (ℕ → ℕ) → ℕ
 sum_below zero f = 0

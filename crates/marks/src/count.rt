@@ -4,7 +4,7 @@ ghost use Rattle.marks.specs.Instances.{of_process};
 ghost use Rattle.table.specs.Lists.{meant};
 
 use table::limits;
-use table::questions::Table;
+use table::questions::{Table, process_or_blank};
 use table::record::Process;
 
 /// Of the eight processes that a table may have.
@@ -13,9 +13,7 @@ pub fn instances<T: Table>(table: &T) -> usize
 {
     let mut total = 0;
     for p in 0..limits::PROCESSES {
-        let mut process = Process::BLANK;
-        table.process(p, &mut process);
-        total += of_process(&process);
+        total += of_process(&process_or_blank(table, p));
     }
     total
 }

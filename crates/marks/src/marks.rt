@@ -1,12 +1,43 @@
 //! Marks: one word of 16 bits for each location, variable n its bit n and timer n its bit 8 + n.
-ghost use Rattle.std.specs.Prelude.{◌≡◌, ◌<◌};
-ghost use Rattle.marks.specs.Words.{bit, word_at, marking, total};
+ghost use Rattle.std.specs.Prelude.{◌≡◌, ◌<◌, ◌≤◌, Some};
+ghost use Rattle.marks.specs.Words.{bit, first_bit, is_marked, letter, word_at, marking, total};
 
-use table::limits;
-
-const LOCATIONS: usize = 16;
+use std::fmt;
+use table::site::Site;
 
 const INDICES: usize = 8;
+
+/// The two sorts of instances.
+#[derive(Clone, Copy, Debug, PartialEq, Eq)]
+pub enum Sort {
+    Variable,
+    Timer,
+}
+
+impl Sort {
+    /// The bit of the first instance of the sort.
+    fn first_bit(self) -> usize
+        ensures value { result ≡ first_bit self }
+        ensures bound { result ≤ 8 }
+    {
+        match self {
+            Sort::Variable => 0,
+            Sort::Timer => INDICES,
+        }
+    }
+}
+
+impl fmt::Display for Sort {
+    ghost output = { λ s. Some (letter s) };
+
+    fn fmt<W: fmt::Write>(&self, f: &mut fmt::Formatter<W>) -> fmt::Result {
+        let letter = match self {
+            Sort::Variable => "x",
+            Sort::Timer => "t",
+        };
+        write!(f, "{letter}")
+    }
+}
 
 /// The word of location l of process p stands at 16 * p + l.
 #[derive(Clone, Copy)]
@@ -21,26 +52,17 @@ impl Marks {
         Marks { words }
     }
 
-    pub fn word(&self, process: usize, location: usize) -> u16
-        ensures value { result ≡ word_at self.now.words process location }
+    pub fn word(&self, site: Site) -> u16
+        ensures value { result ≡ word_at self.now.words site.process site.location }
     {
-        if process < limits::PROCESSES && location < LOCATIONS {
-            self.words[LOCATIONS * process + location]
-        } else {
-            0
-        }
+        site.index().map_or(0, |i| self.words[i])
     }
 
-    pub fn variable(&self, process: usize, location: usize, index: usize) -> bool
-        ensures value { result ≡ (marking self.now).variable process location index }
+    /// Whether the instance of the sort with that index is marked.
+    pub fn has(&self, sort: Sort, site: Site, index: usize) -> bool
+        ensures value { result ≡ is_marked sort (marking self.now) site.process site.location index }
     {
-        index < INDICES && bit(self.word(process, location), index)
-    }
-
-    pub fn timer(&self, process: usize, location: usize, index: usize) -> bool
-        ensures value { result ≡ (marking self.now).timer process location index }
-    {
-        index < INDICES && bit(self.word(process, location), INDICES + index)
+        index < INDICES && bit(self.word(site), sort.first_bit() + index)
     }
 
     /// How many are marked.
