@@ -1,7 +1,7 @@
 //! What is refused, and how a refusal is told: by number, layer and place.
 
 /// What looked and refused.
-#[derive(Clone, Copy)]
+#[derive(Clone, Copy, Debug, PartialEq, Eq)]
 pub enum Layer {
     Sheet,
     Edge,
@@ -13,14 +13,14 @@ pub enum Layer {
 }
 
 /// Where: one number, or a process and a location.
-#[derive(Clone, Copy)]
+#[derive(Clone, Copy, Debug, PartialEq, Eq)]
 pub enum Place {
     At(usize),
     Pair(usize, usize),
 }
 
 /// A refusal as people read it. One that was met inside a sheet also has the bit of the sheet's record.
-#[derive(Clone, Copy)]
+#[derive(Clone, Copy, Debug, PartialEq, Eq)]
 pub struct Refusal {
     pub number: u8,
     pub layer: Layer,
@@ -29,7 +29,7 @@ pub struct Refusal {
 }
 
 /// What is wrong with an edge.
-#[derive(Clone, Copy)]
+#[derive(Clone, Copy, Debug, PartialEq, Eq)]
 pub enum EdgeFault {
     /// A process, location, variable, timer or signal that is not there.
     Missing,
@@ -42,14 +42,14 @@ pub enum EdgeFault {
 }
 
 /// An edge that is wrong, by its number.
-#[derive(Clone, Copy)]
+#[derive(Clone, Copy, Debug, PartialEq, Eq)]
 pub struct BadEdge {
     pub edge: usize,
     pub fault: EdgeFault,
 }
 
 /// What is wrong with a table.
-#[derive(Clone, Copy)]
+#[derive(Clone, Copy, Debug, PartialEq, Eq)]
 pub enum TableFault {
     /// A list, process or signal beyond its limit; the place is that of the process or signal, 0 for a list.
     Limit(usize),

@@ -1,7 +1,7 @@
 //! The first-in-first-out queue, over places that the caller lends to each call.
 #![tactic(auto)]
 
-ghost use Rattle.std.specs.Prelude.{◌≡◌, ◌+◌, ◌-◌, ◌&&◌, [], ◌∷◌, ◌++◌, length, drop, is_some, if◌then◌else◌, MatchOption, ◌==◌, nat_lt, slice_set};
+ghost use Rattle.std.specs.Prelude.{◌≡◌, ◌+◌, ◌-◌, ◌&&◌, [], ◌∷◌, ◌++◌, length, drop, is_ok, is_some, if◌then◌else◌, MatchOption, ◌==◌, nat_lt, slice_set};
 ghost use Rattle.std.specs.List.{slice_get};
 ghost use Rattle.ring.specs.Queue.{fits, fresh, held, longer, shorter, place};
 
@@ -9,11 +9,15 @@ ghost use Rattle.ring.specs.Queue.{fits, fresh, held, longer, shorter, place};
 ///
 /// Each call on one ring is lent the same places. Lent too few, a ring gives nothing and takes nothing: `append` refuses,
 /// `front` and `remove` answer `None`, and nothing changes.
-#[derive(Clone, Copy, Debug)]
+#[derive(Clone, Copy, Debug, PartialEq, Eq)]
 pub struct Ring {
     head: usize,
     len: usize,
 }
+
+/// No place was free.
+#[derive(Clone, Copy, Debug, PartialEq, Eq)]
+pub struct Full;
 
 impl Ring {
     /// The queue that holds nothing.
@@ -49,17 +53,17 @@ impl Ring {
     }
 
     /// Puts `item` behind those held, where a place is free for it.
-    pub fn append<T: Copy>(&mut self, places: &mut [T], item: T) -> bool
-        ensures value { result ≡ (fits self.old (length places.old) && nat_lt self.old.len (length places.old)) }
-        ensures items { held self.new places.new ≡ (if result then held self.old places.old ++ item ∷ [] else held self.old places.old) }
-        ensures len { self.new.len ≡ (if result then self.old.len + 1 else self.old.len) }
+    pub fn append<T: Copy>(&mut self, places: &mut [T], item: T) -> Result<(), Full>
+        ensures value { is_ok result ≡ (fits self.old (length places.old) && nat_lt self.old.len (length places.old)) }
+        ensures items { held self.new places.new ≡ (if is_ok result then held self.old places.old ++ item ∷ [] else held self.old places.old) }
+        ensures len { self.new.len ≡ (if is_ok result then self.old.len + 1 else self.old.len) }
         ensures fit { fits self.new (length places.old) ≡ fits self.old (length places.old) }
-        ensures after { self.new ≡ (if result then longer self.old else self.old) }
-        ensures places { places.new ≡ (if result then slice_set places.old (place self.old (length places.old)) item else places.old) }
+        ensures after { self.new ≡ (if is_ok result then longer self.old else self.old) }
+        ensures places { places.new ≡ (if is_ok result then slice_set places.old (place self.old (length places.old)) item else places.old) }
     {
         let count = places.len();
         if !self.fits(count) || self.len == count {
-            return false;
+            return Err(Full);
         }
         let free = count - self.len;
         let place = if self.head < free {
@@ -69,7 +73,7 @@ impl Ring {
         };
         places[place] = item;
         self.len += 1;
-        true
+        Ok(())
     }
 
     /// Takes out the first of the items held.
@@ -82,9 +86,7 @@ impl Ring {
         ensures fit { fits self.new (length places.now) ≡ fits self.old (length places.now) }
         ensures after { self.new ≡ (if is_some result then shorter self.old (length places.now) else self.old) }
     {
-        let Some(first) = self.front(places) else {
-            return None;
-        };
+        let first = self.front(places)?;
         let next = self.head + 1;
         self.head = if next < places.len() { next } else { 0 };
         self.len -= 1;
