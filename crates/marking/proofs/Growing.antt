@@ -7,7 +7,7 @@ use Rattle.std.proofs.lemmas.Bool.{cases_lt, cases_Bool, cases_eq}
 use Rattle.marking.specs.Nodes.{has, mark, unset}
 use Rattle.marking.specs.Queue.{State, push, pushes, left}
 use Rattle.marking.proofs.Nodes.{length-mark, has-mark-same, has-mark-other, unset-mark}
-use Rattle.marking.proofs.Pushing.{joint, push-new, push-old, push-none, pushes-none, pushes-cons}
+use Rattle.marking.proofs.Pushing.{joint, push-new, push-old, push-none, pushes_none, pushes-cons}
 
 -- t is s with the nodes `is` marked, and those of them queued that were not marked before
 pub record Grew (is : List ℕ) (s t : State) : Type 0 where
@@ -91,7 +91,7 @@ grew-more i is s t u a b = record {
 }
 
 pub grew : (is : List ℕ) (s : State) → length s.words ≡ 132 → Grew is s (pushes s is)
-grew [] s size = subst (Grew [] s) (sym (pushes-none s)) (grew_same [] s (λ j m l. absurd (Memᴰ.not-nil m)))
+grew [] s size = subst (Grew [] s) (sym (pushes_none s)) (grew_same [] s (λ j m l. absurd (Memᴰ.not-nil m)))
 grew (i ∷ is) s size =
     let a = grew-one s i size in
     subst (Grew (i ∷ is) s) (sym (pushes-cons s i is)) (grew-more i is s (push s i) (pushes (push s i) is) a (grew is (push s i) (a.size ∙ size)))

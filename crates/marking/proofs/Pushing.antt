@@ -22,18 +22,18 @@ pub push-none : (s : State) (i : ℕ) → 2112 ≤ i → push s i ≡ s
 unfolding push
 push-none s i h = ap (λ b. cond (b && not (has s.words i)) (with-node s i) s) (le-ltb i 2112 h)
 
-pub pushes-none : (s : State) → pushes s [] ≡ s
+pub pushes_none : (s : State) → pushes s [] ≡ s
 unfolding pushes
-pushes-none s = refl
+pushes_none s = refl
 
-pub pushes-one : (s : State) (i : ℕ) → pushes s (i ∷ []) ≡ push s i
+pub pushes_one : (s : State) (i : ℕ) → pushes s (i ∷ []) ≡ push s i
 unfolding pushes
-pushes-one s i = refl
+pushes_one s i = refl
 
 pub pushes-cons : (s : State) (i : ℕ) (is : List ℕ) → pushes s (i ∷ is) ≡ pushes (push s i) is
 unfolding pushes
 pushes-cons s i is = refl
 
-pub pushes-append : (s : State) (is js : List ℕ) → pushes s (is ++ js) ≡ pushes (pushes s is) js
-pushes-append s [] js = ap (λ r. pushes r js) (sym (pushes-none s))
-pushes-append s (i ∷ is) js = pushes-cons s i (is ++ js) ∙ pushes-append (push s i) is js ∙ ap (λ r. pushes r js) (sym (pushes-cons s i is))
+pub pushes_append : (s : State) (is js : List ℕ) → pushes s (is ++ js) ≡ pushes (pushes s is) js
+pushes_append s [] js = ap (λ r. pushes r js) (sym (pushes_none s))
+pushes_append s (i ∷ is) js = pushes-cons s i (is ++ js) ∙ pushes_append (push s i) is js ∙ ap (λ r. pushes r js) (sym (pushes-cons s i is))

@@ -3,12 +3,13 @@ ghost use Rattle.std.specs.Prelude.{◌≡◌, ◌<◌};
 ghost use Rattle.marking.specs.Leads.{listed, passed, fed_by, from_instance, from_signal, leads, seeds};
 ghost use Rattle.marking.specs.Queue.{state, pushes};
 
-use crate::leads::{SIGNALS, class, fed, node, received, touches};
+use crate::leads::{SIGNALS, fed, node_at_end, received, touches};
 use crate::search::Search;
 use table::expression::mentions;
-use table::questions::Table;
+use table::questions::{Table, class_of};
 use table::record::{Class, Edge};
 
+#[tactic(auto, using(crate::proofs::Pushing::pushes_none, crate::proofs::Pushing::pushes_one, crate::proofs::Pushing::pushes_append), unfolding(crate::specs::Leads::leads, crate::specs::Leads::seeds))]
 impl Search {
     fn push_some(&mut self, node: Option<usize>)
         ensures after { state self.new ≡ pushes (state self.old) (listed node) }
@@ -23,7 +24,7 @@ impl Search {
         ensures after { state self.new ≡ pushes (state self.old) (passed bit edge.now) }
     {
         if !touches(edge, bit) {
-            self.push(node(edge.process, edge.to, bit));
+            self.push(node_at_end(edge, bit.into()));
         }
     }
 
@@ -69,7 +70,7 @@ impl Search {
     pub fn plant<T: Table>(&mut self, table: &T, edge: &Edge)
         ensures after { state self.new ≡ pushes (state self.old) (seeds (T.lists table.now) edge.now) }
     {
-        if let Class::Inbound = class(table, edge.first) {
+        if class_of(table, edge.first) == Class::Inbound {
             self.push_some(received(edge));
         }
     }

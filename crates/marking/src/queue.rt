@@ -33,7 +33,7 @@ impl Search {
     {
         if node < NODES && !self.has(node) {
             self.words[node / 16] |= 1 << (node % 16);
-            self.ring.append(&mut self.places, node as u16);
+            let _ = self.ring.append(&mut self.places, node as u16);
         }
     }
 
@@ -41,9 +41,6 @@ impl Search {
         ensures same { self.new.words ≡ self.old.words }
         ensures cases { MatchOption result ((state self.old).queue ≡ []) (λ i. (state self.old).queue ≡ i ∷ (state self.new).queue) }
     {
-        match self.ring.remove(&self.places) {
-            Some(node) => Some(usize::from(node)),
-            None => None,
-        }
+        self.ring.remove(&self.places).map(usize::from)
     }
 }

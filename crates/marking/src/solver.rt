@@ -1,5 +1,5 @@
 //! The search for the least marks: inputs of inbound signals first, then whatever a marked node leads to.
-ghost use Rattle.std.specs.Prelude.{◌≡◌, take, None};
+ghost use Rattle.std.specs.Prelude.{◌≡◌, ℕ, List, take, None};
 ghost use Rattle.std.specs.List.{flat_map};
 ghost use Rattle.marks.specs.Instances.{own};
 ghost use Rattle.marking.specs.Leads.{leads, seeds};
@@ -7,28 +7,22 @@ ghost use Rattle.marking.specs.Queue.{state, pushes};
 ghost use Rattle.marks.specs.Rules.{Least, Within};
 ghost use Rattle.marks.specs.Words.{marking};
 ghost use Rattle.table.specs.Examination.{examined};
+ghost use Rattle.table.specs.declared.record.Edge.{Edge};
 
 use crate::search::{Search, WORDS};
 use marks::marks::Marks;
 use table::questions::Table;
+use table::record::Edge;
 
 impl Search {
-    fn seed<T: Table>(&mut self, table: &T)
-        ensures after { state self.new ≡ pushes (state self.old) (flat_map (seeds (T.lists table.now)) (T.lists table.now).edges) }
+    /// Takes the step at each edge in turn.
+    fn at_each_edge<T: Table, F: Fn(&mut Search, &Edge)>(&mut self, table: &T, step: F)
+        requires { F.IsAlwaysCallable step }
+        ensures after { (f : Edge → List ℕ) → ((s t : _) (e : _) → F.post step s e tt t → state t.now ≡ pushes (state s.now) (f e.now)) → state self.new ≡ pushes (state self.old) (flat_map f (T.lists table.now).edges) }
     {
         for k in 0..table.edge_count() {
             if let Some(edge) = table.edge(k) {
-                self.plant(table, &edge);
-            }
-        }
-    }
-
-    fn spread<T: Table>(&mut self, table: &T, node: usize)
-        ensures after { state self.new ≡ pushes (state self.old) (flat_map (leads (T.lists table.now) node) (T.lists table.now).edges) }
-    {
-        for k in 0..table.edge_count() {
-            if let Some(edge) = table.edge(k) {
-                self.follow(table, &edge, node);
+                step(self, &edge);
             }
         }
     }
@@ -41,9 +35,9 @@ pub fn least<T: Table>(table: &T) -> Marks
     ensures within { Within (marking result) (own (T.lists table.now)) }
 {
     let mut search = Search::new();
-    search.seed(table);
+    search.at_each_edge(table, |search, edge| search.plant(table, edge));
     while let Some(node) = search.pop() {
-        search.spread(table, node);
+        search.at_each_edge(table, |search, edge| search.follow(table, edge, node));
     }
     found(&search.words)
 }

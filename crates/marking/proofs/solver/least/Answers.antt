@@ -1,4 +1,4 @@
-use Rattle.std.proofs.Common.{take, sym, ap, ◌∙◌, subst}
+use Rattle.std.proofs.Common.{rules, take, sym, ap, ◌∙◌, subst}
 use Rattle.std.specs.List.{flat_map}
 use Rattle.marks.specs.Instances.{own}
 use Rattle.marking.specs.Leads.{leads, seeds}
@@ -14,17 +14,17 @@ use Rattle.marking.proofs.solver.least.Goals as goal
 pub loop-node-init : goal.loop-node-init
 loop-node-init g c =
     let T = g.T.Table.lists c.args.table.now in
-    search-starts (λ i. flat_map (leads T i) T.edges) (flat_map (seeds T) T.edges) (state c.new-search.result) (state c.seed.new.self) c.new-search.result.marked c.new-search.ensures.none c.new-search.ensures.empty c.seed.ensures.after
+    search-starts (λ i. flat_map (leads T i) T.edges) (flat_map (seeds T) T.edges) (state c.new-search.result) (state c.at_each_edge.new.self) c.new-search.result.marked c.new-search.ensures.none c.new-search.ensures.empty (c.at_each_edge.ensures.after (seeds T) (λ s t e p. search rules))
 
 pub loop-node-smaller : goal.loop-node-smaller
 loop-node-smaller g c =
     let T = g.T.Table.lists c.args.table.now in
-    search-falls (λ i. flat_map (leads T i) T.edges) (flat_map (seeds T) T.edges) (state c.loop-node.search) (state c.pop.new.self) (state c.spread.new.self) c.in-Some.node c.loop-node.invariant.size c.in-Some.ensures.cases c.in-Some.ensures.same c.spread.ensures.after
+    search-falls (λ i. flat_map (leads T i) T.edges) (flat_map (seeds T) T.edges) (state c.loop-node.search) (state c.pop.new.self) (state c.at_each_edge-in-Some.new.self) c.in-Some.node c.loop-node.invariant.size c.in-Some.ensures.cases c.in-Some.ensures.same (c.at_each_edge-in-Some.ensures.after (leads T c.in-Some.node) (λ s t e p. search rules))
 
 pub loop-node-preserved : goal.loop-node-preserved
 loop-node-preserved g c =
     let T = g.T.Table.lists c.args.table.now in
-    search-steps (λ i. flat_map (leads T i) T.edges) (flat_map (seeds T) T.edges) (state c.loop-node.search) (state c.pop.new.self) (state c.spread.new.self) c.in-Some.node c.loop-node.invariant c.in-Some.ensures.cases c.in-Some.ensures.same c.spread.ensures.after
+    search-steps (λ i. flat_map (leads T i) T.edges) (flat_map (seeds T) T.edges) (state c.loop-node.search) (state c.pop.new.self) (state c.at_each_edge-in-Some.new.self) c.in-Some.node c.loop-node.invariant c.in-Some.ensures.cases c.in-Some.ensures.same (c.at_each_edge-in-Some.ensures.after (leads T c.in-Some.node) (λ s t e p. search rules))
 
 pub returns : goal.returns
 returns g c =

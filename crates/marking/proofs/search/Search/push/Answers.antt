@@ -1,3 +1,4 @@
+use Rattle.std.specs.Result.{is_ok}
 use Rattle.std.proofs.Common.{◌≡◌, ℕ, ◌+◌, ◌<◌, Bool, true, false, cond, ◌&&◌, ltb, [], ◌∷◌, ◌++◌, length, sym, ap, ◌∙◌, arith}
 use Rattle.std.proofs.lemmas.Bool.Decides.{nat_tests}
 use Rattle.ring.specs.Queue.{fits, held}
@@ -22,7 +23,7 @@ invariant_of-self c =
     let s = c.args.self.now in
     let n = c.if-not-has.ensures.value in
     let f = fewer s c.args.node c.if-node-lt-NODES.true (sym n) in
-    let r = appended s c.args.node c.if-node-lt-NODES.true (sym n) c.append.result c.append.ensures.value in
+    let r = appended s c.args.node c.if-node-lt-NODES.true (sym n) (is_ok c.append.result) c.append.ensures.value in
     let e = mark-shifted s.words c.args.node in
     let l : length c.append.new.places ≡ 2112 = omega (arith, s.whole) in
     let t : fits c.append.new.self 2112 ≡ true =
@@ -39,7 +40,7 @@ pub returns-then-not-has : goal.returns-then-not-has
 returns-then-not-has c =
     let s = c.args.self.now in
     let n = c.if-not-has.ensures.value in
-    let r = appended s c.args.node c.if-node-lt-NODES.true (sym n) c.append.result c.append.ensures.value in
+    let r = appended s c.args.node c.if-node-lt-NODES.true (sym n) (is_ok c.append.result) c.append.ensures.value in
     let p = push-new (state s) c.args.node c.if-node-lt-NODES.true (sym n) in
     let e = mark-shifted s.words c.args.node in
     let q = c.append.ensures.items ∙ ap (λ b. cond b (held s.ring s.places ++ c.args.node ∷ []) (held s.ring s.places)) r in
