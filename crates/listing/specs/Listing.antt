@@ -2,7 +2,6 @@
 --   each_from f i n      what f gives for the n numbers from i on, one after the other
 --   line p l c n         a line: process, location, and the instance as its letter c and number
 --   instance_text m ..   that line where the instance is marked, else nothing
---   letter s, is_marked s M   the letter of a sort of instances, and its marks
 --   sort_text s M p l n  the line of variable or timer n
 --   location_text M r p l the lines of location l of process p, whose record is r: variables, then timers
 --   listing_text T M     the lines of the table T in order, then the count of marks and of instances
@@ -12,12 +11,12 @@
 --   Judged bs j          the view and marks j are of the sheet bs
 --   Listed bs text       text says why the sheet bs is refused, or else lists the least marks of its table
 use Rattle.std.specs.Prelude.{◌≡◌, ℕ, zero, suc, ◌+◌, Bool, cond, List, [], ◌++◌, length, take, Some, None, Ok, Err, codes, decimal, sum_by, Option, Result, slice_index_or}
-use Rattle.listing.specs.declared.lines.Sort.{Sort}
-use Rattle.listing.specs.declared.lines.Sort.TheVariants.{Variable, Timer}
 use Rattle.marks.specs.Instances.{of_process}
 use Rattle.marks.specs.Rules.{Marking, Least}
-use Rattle.marks.specs.Words.{marking, total}
+use Rattle.marks.specs.Words.{is_marked, letter, marking, total}
 use Rattle.marks.specs.declared.marks.Marks.{Marks}
+use Rattle.marks.specs.declared.marks.Sort.{Sort}
+use Rattle.marks.specs.declared.marks.Sort.TheVariants.{Variable, Timer}
 use Rattle.reading.specs.Opening.{Opened, opened}
 use Rattle.sheet.specs.Views.{lists_of}
 use Rattle.sheet.specs.declared.view.Sheet.{Sheet}
@@ -36,14 +35,6 @@ line p l c n = decimal p ++ (codes " " ++ (decimal l ++ (codes " " ++ (c ++ (dec
 
 abbrev pub instance_text : Bool → ℕ → ℕ → List ℕ → ℕ → List ℕ
 instance_text m p l c n = cond m (line p l c n) []
-
-abbrev pub letter : Sort → List ℕ
-letter Variable = codes "x"
-letter Timer = codes "t"
-
-abbrev pub is_marked : Sort → Marking → ℕ → ℕ → ℕ → Bool
-is_marked Variable M = M.variable
-is_marked Timer M = M.timer
 
 abbrev pub sort_text : Sort → Marking → ℕ → ℕ → ℕ → List ℕ
 sort_text s M p l n = instance_text (is_marked s M p l n) p l (letter s) n

@@ -1,42 +1,16 @@
 //! The lines of a listing.
 ghost use Rattle.std.specs.Prelude.{◌≡◌, ◌++◌, IfOk, string_bytes, OnOk};
-ghost use Rattle.listing.specs.Listing.{each_from, letter, is_marked, instance_text, sort_text, location_text, table_text, count_text, listing_text};
-ghost use Rattle.marks.specs.Words.{marking};
-ghost use Rattle.table.specs.Edges.{blank};
+ghost use Rattle.listing.specs.Listing.{each_from, instance_text, sort_text, process_text, count_text, listing_text};
+ghost use Rattle.marks.specs.Words.{is_marked, letter, marking};
 ghost use Rattle.table.specs.Lists.{meant};
 
 use marks::instances;
-use marks::marks::Marks;
+use marks::marks::{Marks, Sort};
 use std::alloc::{AllocError, Global};
-use table::questions::Table;
+use std::fmt::Write;
+use table::questions::{Table, process_or_blank};
 use table::record::Process;
-
-/// The two sorts of instances.
-#[derive(Clone, Copy)]
-pub enum Sort {
-    Variable,
-    Timer,
-}
-
-impl Sort {
-    fn letter(self) -> &'static str
-        ensures { result.now ≡ letter self }
-    {
-        match self {
-            Sort::Variable => "x",
-            Sort::Timer => "t",
-        }
-    }
-
-    fn is_marked(self, marks: &Marks, p: usize, l: usize, n: usize) -> bool
-        ensures { result ≡ is_marked self (marking marks.now) p l n }
-    {
-        match self {
-            Sort::Variable => marks.variable(p, l, n),
-            Sort::Timer => marks.timer(p, l, n),
-        }
-    }
-}
+use table::site::Site;
 
 /// Every marked instance of the table on a line of its own, then how many of how many are marked.
 pub fn describe<T: Table>(heap: Global, table: &T, marks: &Marks) -> Result<String, AllocError>
@@ -44,98 +18,69 @@ pub fn describe<T: Table>(heap: Global, table: &T, marks: &Marks) -> Result<Stri
 {
     let mut text = String::new(heap);
     for p in 0..table.process_count() {
-        push_process(heap, &mut text, table, marks, p)?;
+        push_process(&mut text, marks, &process_or_blank(table, p), p)?;
     }
-    push_count(heap, &mut text, table, marks)?;
+    push_count(&mut text, table, marks)?;
     Ok(text)
 }
 
 /// How many of how many instances are marked.
-fn push_count<T: Table>(
-    heap: Global,
-    text: &mut String,
-    table: &T,
-    marks: &Marks,
-) -> Result<(), AllocError>
+fn push_count<T: Table>(text: &mut String, table: &T, marks: &Marks) -> Result<(), AllocError>
     ensures { OnOk result (string_bytes text.new ≡ string_bytes text.old ++ count_text (T.lists table.now) (marking marks.now)) }
 {
     let marked = marks.total();
     let all = instances(table);
-    let line = format!(in heap; "{marked} of {all}\n")?;
-    text.push_str(line.as_str())
+    write!(text, "{marked} of {all}\n")
 }
 
-fn push_process<T: Table>(
-    heap: Global,
-    text: &mut String,
-    table: &T,
-    marks: &Marks,
-    p: usize,
-) -> Result<(), AllocError>
-    ensures { OnOk result (string_bytes text.new ≡ string_bytes text.old ++ table_text (T.lists table.now) (marking marks.now) p) }
-{
-    let mut process = Process::BLANK;
-    table.process(p, &mut process);
-    push_locations(heap, text, marks, &process, p)
-}
-
-fn push_locations(
-    heap: Global,
+fn push_process(
     text: &mut String,
     marks: &Marks,
     process: &Process,
     p: usize,
 ) -> Result<(), AllocError>
-    ensures { OnOk result (string_bytes text.new ≡ string_bytes text.old ++ each_from (location_text (marking marks.now) (meant process.now) p) 0 process.now.locations) }
+    ensures { OnOk result (string_bytes text.new ≡ string_bytes text.old ++ process_text (marking marks.now) (meant process.now) p) }
 {
-    for l in 0..usize::from(process.locations) {
-        push_sort(heap, text, marks, Sort::Variable, p, l, process.variables)?;
-        push_sort(heap, text, marks, Sort::Timer, p, l, process.timers)?;
+    for location in 0..usize::from(process.locations) {
+        let site = Site {
+            process: p,
+            location,
+        };
+        push_sort(text, marks, Sort::Variable, site, process.variables)?;
+        push_sort(text, marks, Sort::Timer, site, process.timers)?;
     }
     Ok(())
 }
 
-/// The first so many variables, or timers, of location l of process p.
+/// The first so many variables, or timers, of a location.
 fn push_sort(
-    heap: Global,
     text: &mut String,
     marks: &Marks,
     sort: Sort,
-    p: usize,
-    l: usize,
+    site: Site,
     count: u8,
 ) -> Result<(), AllocError>
-    ensures { OnOk result (string_bytes text.new ≡ string_bytes text.old ++ each_from (sort_text sort (marking marks.now) p l) 0 count) }
+    ensures { OnOk result (string_bytes text.new ≡ string_bytes text.old ++ each_from (sort_text sort (marking marks.now) site.process site.location) 0 count) }
 {
     for n in 0..usize::from(count) {
-        push_instance(
-            heap,
-            text,
-            sort.is_marked(marks, p, l, n),
-            p,
-            l,
-            sort.letter(),
-            n,
-        )?;
+        push_instance(text, marks, sort, site, n)?;
     }
     Ok(())
 }
 
 /// The line of an instance, where it is marked.
 fn push_instance(
-    heap: Global,
     text: &mut String,
-    marked: bool,
-    p: usize,
-    l: usize,
-    letter: &str,
+    marks: &Marks,
+    sort: Sort,
+    site: Site,
     n: usize,
 ) -> Result<(), AllocError>
-    ensures { OnOk result (string_bytes text.new ≡ string_bytes text.old ++ instance_text marked p l letter.now n) }
+    ensures { OnOk result (string_bytes text.new ≡ string_bytes text.old ++ sort_text sort (marking marks.now) site.process site.location n) }
 {
-    if !marked {
+    if !marks.has(sort, site, n) {
         return Ok(());
     }
-    let line = format!(in heap; "{p} {l} {letter}{n}\n")?;
-    text.push_str(line.as_str())
+    let Site { process, location } = site;
+    write!(text, "{process} {location} {sort}{n}\n")
 }

@@ -1,14 +1,14 @@
 //! What a run is made of.
 
 /// A message: a signal and the value that it carries.
-#[derive(Clone, Copy)]
+#[derive(Clone, Copy, Debug, PartialEq, Eq)]
 pub struct Message {
     pub signal: u8,
     pub value: i16,
 }
 
 /// One step call.
-#[derive(Clone, Copy)]
+#[derive(Clone, Copy, Debug, PartialEq, Eq)]
 pub enum Step {
     /// The surroundings send a signal.
     Offer { signal: u16, value: i16 },
