@@ -1,8 +1,10 @@
 -- The fields of an edge, out of the number that its 60 bits write.
-use Rattle.std.proofs.Common.{◌≡◌, ℕ, ◌+◌, ◌-◌, ◌*◌, ◌/◌, ◌%◌, ◌^◌, ◌<◌, ◌≤◌, true, ◌&&◌, leb, List, length, get_or, sym, refl, ap, ◌∙◌, arith, pow_mono}
+use Rattle.std.proofs.Common.{◌≡◌, ℕ, ◌+◌, ◌-◌, ◌*◌, ◌/◌, ◌%◌, ◌^◌, ◌<◌, ◌≤◌, true, ◌&&◌, leb, List, length, get_or, take, drop, sym, refl, ap, ◌∙◌, arith, pow_mono}
 use Rattle.std.proofs.lemmas.Bool.{le-leb, and_from, cond-true}
+use Rattle.std.proofs.lemmas.List.{get_or-take, get_or-drop}
+use Rattle.std.specs.List.{slice_range}
 use Rattle.reading.proofs.Chains.{after-got}
-use Rattle.reading.proofs.Numbers.{number-below, number-part, number-byte, number-bytes}
+use Rattle.reading.proofs.Numbers.{number-none, number-below, number-part, number-bytes}
 use Rattle.reading.specs.Formats.{got, taken, number}
 use Rattle.reading.specs.Layout.{edge_format, span_format}
 use Rattle.reading.specs.Readings.{read_at}
@@ -88,30 +90,38 @@ edge-loaded bs p room =
       piece bs p 55 5 0 q10 (omega arith) refl,
     ))
 
+-- the first nine bytes of a part that goes to the end
+pub nine : (bs rest xs : List ℕ) (i k : ℕ) → rest ≡ slice_range bs i (length bs) → length rest + i ≡ length bs → 9 ≤ length rest → xs ≡ take 9 rest → k < 9 → get_or xs k 0 ≡ get_or bs (i + k) 0
+nine bs rest xs i k r l room s h =
+    ap (λ ys. get_or ys k 0) s ∙ get_or-take 9 rest k 0 h ∙ ap (λ ys. get_or ys k 0) r ∙ get_or-take (length bs - i) (drop i bs) k 0 (omega arith) ∙ get_or-drop i bs k 0
+
 -- 60 bits lie in nine bytes
-next : (bs : List ℕ) (i j n : ℕ) → j ≡ i + 1 → get_or bs i 0 < 256 → number bs (8 * i) (8 + n) ≡ get_or bs i 0 * 2 ^ n + number bs (8 * j) n
-next bs i j n e h = number-bytes bs i n h ∙ ap (λ k. get_or bs i 0 * 2 ^ n + number bs (8 * k) n) (sym e)
+abbrev pub loaded : List ℕ → ℕ
+loaded xs =
+    (get_or xs 0 0 * 72057594037927936 + get_or xs 1 0 * 281474976710656 + get_or xs 2 0 * 1099511627776 + get_or xs 3 0 * 4294967296 + get_or xs 4 0 * 16777216
+    + get_or xs 5 0 * 65536 + get_or xs 6 0 * 256 + get_or xs 7 0) * 256 + get_or xs 8 0
 
-module _ (bs : List ℕ) (p : ℕ) where
-  abbrev pub loaded : ℕ
-  loaded = let i = p / 8 in
-      (get_or bs i 0 * 72057594037927936 + get_or bs (i + 1) 0 * 281474976710656 + get_or bs (i + 2) 0 * 1099511627776 + get_or bs (i + 3) 0 * 4294967296 + get_or bs (i + 4) 0 * 16777216
-      + get_or bs (i + 5) 0 * 65536 + get_or bs (i + 6) 0 * 256 + get_or bs (i + 7) 0) * 256 + get_or bs (i + 8) 0
+module _ (bs xs : List ℕ) (p : ℕ) (same : (k : ℕ) → k < 9 → get_or xs k 0 ≡ get_or bs (p / 8 + k) 0) (small : (k : ℕ) → k < 9 → get_or xs k 0 < 256) where
+  next : (k n : ℕ) → k < 9 → number bs (8 * (p / 8 + k)) (8 + n) ≡ get_or xs k 0 * 2 ^ n + number bs (8 * (p / 8 + (k + 1))) n
+  next k n h =
+      let e = same k h in
+      let s : p / 8 + k + 1 ≡ p / 8 + (k + 1) = omega arith in
+      number-bytes bs (p / 8 + k) n (rw (← e) (small k h)) ∙ rw (← e, s) refl
 
-  pub number-loaded : get_or bs (p / 8) 0 < 256 → get_or bs (p / 8 + 1) 0 < 256 → get_or bs (p / 8 + 2) 0 < 256 → get_or bs (p / 8 + 3) 0 < 256 → get_or bs (p / 8 + 4) 0 < 256 →
-      get_or bs (p / 8 + 5) 0 < 256 → get_or bs (p / 8 + 6) 0 < 256 → get_or bs (p / 8 + 7) 0 < 256 → get_or bs (p / 8 + 8) 0 < 256 → number bs p 60 ≡ loaded / 2 ^ (12 - p % 8) % 2 ^ 60
-  number-loaded h0 h1 h2 h3 h4 h5 h6 h7 h8 =
-      let i = p / 8 in
-      let n0 = next bs i (i + 1) 64 refl h0 in
-      let n1 = next bs (i + 1) (i + 2) 56 (omega arith) h1 in
-      let n2 = next bs (i + 2) (i + 3) 48 (omega arith) h2 in
-      let n3 = next bs (i + 3) (i + 4) 40 (omega arith) h3 in
-      let n4 = next bs (i + 4) (i + 5) 32 (omega arith) h4 in
-      let n5 = next bs (i + 5) (i + 6) 24 (omega arith) h5 in
-      let n6 = next bs (i + 6) (i + 7) 16 (omega arith) h6 in
-      let n7 = next bs (i + 7) (i + 8) 8 (omega arith) h7 in
-      let n8 = number-byte bs (i + 8) h8 in
-      let all : number bs (8 * (p / 8)) 72 ≡ loaded = omega arith in
+  pub number-loaded : number bs p 60 ≡ loaded xs / 2 ^ (12 - p % 8) % 2 ^ 60
+  number-loaded =
+      let z : p / 8 + 0 ≡ p / 8 = omega arith in
+      let n0 = rw z at (next 0 64 (omega arith)) in
+      let n1 = next 1 56 (omega arith) in
+      let n2 = next 2 48 (omega arith) in
+      let n3 = next 3 40 (omega arith) in
+      let n4 = next 4 32 (omega arith) in
+      let n5 = next 5 24 (omega arith) in
+      let n6 = next 6 16 (omega arith) in
+      let n7 = next 7 8 (omega arith) in
+      let n8 = next 8 0 (omega arith) in
+      let none = number-none bs (8 * (p / 8 + (8 + 1))) in
+      let all : number bs (8 * (p / 8)) 72 ≡ loaded xs = omega arith in
       let q : 8 * (p / 8) + p % 8 ≡ p = omega arith in
       let e : p % 8 + 60 + (12 - p % 8) ≡ 72 = omega arith in
       ap (λ k. number bs k 60) (sym q) ∙ number-part bs (8 * (p / 8)) (p % 8) 60 (12 - p % 8) ∙

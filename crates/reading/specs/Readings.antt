@@ -1,4 +1,5 @@
 -- What a reader's answer tells, and what lies at a bit.
+--   Room s n              n bits more can be counted: the bit behind them has a number in 64 bits
 --   told means r q        the answer of a reader that returns r and stands at bit q then; means is what its values mean
 --   Moves r p n q         a reader went from bit p to bit q: by n bits, or at most that many where it refuses
 --   Stays r q             a reader that refuses stands at the first bit of the field it refuses
@@ -6,13 +7,16 @@
 --   value_or a d          the value of an answer, or d
 --   read_at f d bs p      what f reads at bit p of bs, or d where it refuses
 --   row_at f d bs p w n   n such values, each w bits behind the one before
-use Rattle.std.specs.Prelude.{◌≡◌, ℕ, ◌+◌, ◌*◌, ◌≤◌, List, map, Ok, Err, Result}
+use Rattle.std.specs.Prelude.{◌≡◌, ℕ, ◌+◌, ◌*◌, ◌^◌, ◌<◌, ◌≤◌, List, map, Ok, Err, Result}
 use Rattle.std.specs.List.{range_with_len}
 use Rattle.reading.specs.Faults.{sheet_refusal}
 use Rattle.reading.specs.Formats.{Answer, Format, got, bad}
 use Rattle.reading.specs.declared.reader.Reader.{Reader}
 use Rattle.reading.specs.declared.fault.SheetFault.{SheetFault}
 use Rattle.refusal.specs.declared.fault.Place.{Place}
+
+abbrev pub Room : Reader → ℕ → Type 0
+Room s n = s.place + n < 2 ^ 64
 
 abbrev pub told : {A B : Type 0} → (A → B) → Result A SheetFault → ℕ → Answer B
 told means (Ok x) q = got (means x) q

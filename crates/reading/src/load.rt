@@ -1,8 +1,8 @@
 //! Reading an edge's 60 bits at once.
-ghost use Rattle.std.specs.Prelude.{◌≡◌, ◌+◌, ◌-◌, ◌*◌, ◌/◌, ◌%◌, ◌^◌, ◌<◌, ◌≤◌, length};
+ghost use Rattle.std.specs.Prelude.{◌≡◌, ◌+◌, ◌-◌, ◌*◌, ◌/◌, ◌%◌, ◌^◌, ◌<◌, ◌≤◌, length, IfSome};
 ghost use Rattle.reading.specs.Formats.{number};
 ghost use Rattle.reading.specs.Layout.{edge_format};
-ghost use Rattle.reading.specs.Readings.{read_at};
+ghost use Rattle.reading.specs.Readings.{Room, read_at};
 ghost use Rattle.reading.specs.Rows.{no_edge};
 
 use crate::reader::Reader;
@@ -24,7 +24,8 @@ const NO_EDGE: Edge = Edge {
 
 /// The field of `width` bits at bit `at` of an edge's 60.
 fn part(word: u64, at: u32, width: u32) -> u16
-    requires { (at + width ≤ 60) × (width ≤ 16) }
+    requires inside { at + width ≤ 60 }
+    requires width { width ≤ 16 }
     ensures value { result ≡ word / 2 ^ (60 - at - width) % 2 ^ width }
     ensures bound { result < 2 ^ width }
 {
@@ -32,37 +33,25 @@ fn part(word: u64, at: u32, width: u32) -> u16
 }
 
 impl<'a> Reader<'a> {
-    /// The next 60 bits, which lie in nine bytes.
-    fn word(&self) -> u64
-        requires { (self.now.place / 8 + 9 ≤ length self.now.bytes.now) × (self.now.place < 2 ^ 40) }
-        ensures { result ≡ number self.now.bytes.now self.now.place 60 }
+    /// The next 60 bits, if the nine bytes are there in which they lie.
+    fn word(&self) -> Option<u64>
+        ensures value { IfSome result (λ w. w ≡ number self.now.bytes.now self.now.place 60) }
+        ensures room { IfSome result (λ w. self.now.place + 60 ≤ 8 * length self.now.bytes.now) }
     {
-        let b = self.bytes;
-        let i = self.place / 8;
-        let high = u64::from_be_bytes([
-            b[i],
-            b[i + 1],
-            b[i + 2],
-            b[i + 3],
-            b[i + 4],
-            b[i + 5],
-            b[i + 6],
-            b[i + 7],
-        ]);
-        let window = u128::from(high) * 256 + u128::from(b[i + 8]);
-        ((window >> (12 - self.place % 8)) & ((1 << 60) - 1)) as u64
+        let &[a, b, c, d, e, f, g, h, last] = self.bytes.get(self.place / 8..)?.first_chunk::<9>()?;
+        let high = u64::from_be_bytes([a, b, c, d, e, f, g, h]);
+        let window = u128::from(high) * 256 + u128::from(last);
+        Some(((window >> (12 - self.place % 8)) & ((1 << 60) - 1)) as u64)
     }
 
     /// The edge that lies here, or an edge of zeros where the bytes end too soon.
     pub fn edge_here(&self) -> Edge
-        requires { self.now.place < 2 ^ 34 }
+        requires { Room self.now 60 }
         ensures { result ≡ read_at edge_format no_edge self.now.bytes.now self.now.place }
     {
-        if self.place / 8 + 9 > self.bytes.len() {
-            let (bytes, place) = (self.bytes, self.place);
-            return Reader { bytes, place }.edge().unwrap_or(NO_EDGE);
-        }
-        let word = self.word();
+        let Some(word) = self.word() else {
+            return Reader::at(self.bytes, self.place).edge().unwrap_or(NO_EDGE);
+        };
         Edge {
             process: part(word, 0, 3) as u8,
             from: part(word, 3, 4) as u8,

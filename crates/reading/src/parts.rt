@@ -3,7 +3,7 @@ ghost use Rattle.std.specs.Prelude.{◌≡◌, ◌+◌, ◌-◌, ◌*◌, ◌/�
 ghost use Rattle.reading.specs.Formats.{field, many, filled, ended};
 ghost use Rattle.reading.specs.Layout.{process_format, signal_format, edge_format, term_format, name_format};
 ghost use Rattle.reading.specs.Opening.{processes_bits, placed};
-ghost use Rattle.reading.specs.Readings.{Reads, Moves};
+ghost use Rattle.reading.specs.Readings.{Room, Reads, Moves};
 ghost use Rattle.reading.specs.Rows.{processes_from, signals_from, edges_from, terms_from, text_at, texts_at, named_at, next_name};
 
 use crate::fault::SheetFault;
@@ -19,7 +19,8 @@ impl<'a> Reader<'a> {
         count: u8,
         places: &mut [u32; limits::PROCESSES],
     ) -> Result<(), SheetFault>
-        requires { (count ≤ 8) × (self.old.place ≤ 2 ^ 16) }
+        requires count { count ≤ 8 }
+        requires place { self.old.place + 272 * count < 2 ^ 32 }
         ensures reads { Reads (many count process_format).reads (λ _. processes_from self.old.bytes.now (take count places.new)) self.old result self.new }
         ensures size { OnOk result (self.new.place ≡ self.old.place + processes_bits (processes_from self.old.bytes.now (take count places.new))) }
         ensures bound { self.new.place ≤ self.old.place + 272 * count }
@@ -32,7 +33,7 @@ impl<'a> Reader<'a> {
     }
 
     pub fn signals(&mut self, count: u8, processes: u8) -> Result<(), SheetFault>
-        requires { self.old.place < 2 ^ 32 }
+        requires { Room self.old (6 * count) }
         ensures reads { Reads (many count (signal_format processes)).reads (λ _. signals_from self.old.bytes.now self.old.place processes count) self.old result self.new }
         ensures moves { Moves result self.old.place (6 * count) self.new.place }
     {
@@ -43,7 +44,7 @@ impl<'a> Reader<'a> {
     }
 
     pub fn edges(&mut self, count: u16) -> Result<(), SheetFault>
-        requires { self.old.place < 2 ^ 32 }
+        requires { Room self.old (60 * count) }
         ensures reads { Reads (many count edge_format).reads (λ _. edges_from self.old.bytes.now self.old.place count) self.old result self.new }
         ensures moves { Moves result self.old.place (60 * count) self.new.place }
     {
@@ -54,7 +55,7 @@ impl<'a> Reader<'a> {
     }
 
     pub fn terms(&mut self, count: u16) -> Result<(), SheetFault>
-        requires { self.old.place < 2 ^ 32 }
+        requires { Room self.old (20 * count) }
         ensures reads { Reads (many count term_format).reads (λ _. terms_from self.old.bytes.now self.old.place count) self.old result self.new }
         ensures moves { Moves result self.old.place (20 * count) self.new.place }
     {
@@ -66,7 +67,7 @@ impl<'a> Reader<'a> {
 
     /// Zero bits up to the next whole byte.
     pub fn fill(&mut self) -> Result<u16, SheetFault>
-        requires { self.old.place < 2 ^ 34 }
+        requires { Room self.old 7 }
         ensures reads { Reads filled.reads (λ v. v) self.old result self.new }
         ensures moves { Moves result self.old.place ((8 - self.old.place % 8) % 8) self.new.place }
     {
@@ -75,7 +76,8 @@ impl<'a> Reader<'a> {
 
     /// A whole byte of a name.
     fn name_byte(&mut self, least: u8, most: u8) -> Result<u8, SheetFault>
-        requires { (self.old.place % 8 ≡ 0) × (self.old.place < 2 ^ 34) }
+        requires whole_byte { self.old.place % 8 ≡ 0 }
+        requires room { Room self.old 8 }
         ensures reads { Reads (field 8 least most 6).reads (λ v. v) self.old result self.new }
         ensures moves { Moves result self.old.place 8 self.new.place }
         ensures byte { IfOk result (λ v. (v ≡ slice_index self.old.bytes.now (self.old.place / 8)) × (self.old.place / 8 < length self.old.bytes.now) × (v ≤ most)) }
@@ -94,7 +96,8 @@ impl<'a> Reader<'a> {
 
     /// So many characters.
     fn characters(&mut self, count: u8) -> Result<(), SheetFault>
-        requires { (self.old.place % 8 ≡ 0) × (self.old.place < 2 ^ 33) }
+        requires whole_byte { self.old.place % 8 ≡ 0 }
+        requires room { Room self.old (8 * count) }
         ensures reads { Reads (many count (field 8 33 126 6)).reads (λ _. take count (drop (self.old.place / 8) self.old.bytes.now)) self.old result self.new }
         ensures moves { Moves result self.old.place (8 * count) self.new.place }
         ensures whole { OnOk result (length (take count (drop (self.old.place / 8) self.old.bytes.now)) ≡ count) }
@@ -105,8 +108,10 @@ impl<'a> Reader<'a> {
         Ok(())
     }
 
+    #[tactic(auto, unfolding(crate::specs::Formats::after, crate::specs::Layout::name_format))]
     pub fn name(&mut self) -> Result<(), SheetFault>
-        requires { (self.old.place % 8 ≡ 0) × (self.old.place < 2 ^ 32) }
+        requires whole_byte { self.old.place % 8 ≡ 0 }
+        requires room { Room self.old 128 }
         ensures reads { Reads name_format.reads (λ _. text_at self.old.bytes.now (self.old.place / 8)) self.old result self.new }
         ensures size { OnOk result (self.new.place ≡ 8 * next_name self.old.bytes.now (self.old.place / 8)) }
         ensures bound { self.new.place ≤ self.old.place + 128 }
@@ -117,7 +122,8 @@ impl<'a> Reader<'a> {
     }
 
     pub fn names(&mut self, count: usize) -> Result<(), SheetFault>
-        requires { (self.old.place % 8 ≡ 0) × ((self.old.place < 2 ^ 30) × (count ≤ 512)) }
+        requires whole_byte { self.old.place % 8 ≡ 0 }
+        requires room { Room self.old (128 * count) }
         ensures reads { Reads (many count name_format).reads (λ _. texts_at self.old.bytes.now (self.old.place / 8) count) self.old result self.new }
         ensures places { OnOk result (placed (self.old.place / 8) (texts_at self.old.bytes.now (self.old.place / 8) count) ≡ named_at self.old.bytes.now (self.old.place / 8) count) }
     {

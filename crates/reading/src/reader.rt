@@ -3,7 +3,7 @@ ghost use Rattle.std.specs.Prelude.{◌≡◌, ◌+◌, ◌*◌, ◌^◌, ◌<�
 ghost use Rattle.refusal.specs.declared.fault.Place.{Place};
 ghost use Rattle.reading.specs.Formats.{number, field, plain, taken};
 ghost use Rattle.reading.specs.Faults.{sheet_refusal};
-ghost use Rattle.reading.specs.Readings.{Reads, Moves};
+ghost use Rattle.reading.specs.Readings.{Room, Reads, Moves};
 
 use crate::fault::SheetFault;
 
@@ -15,20 +15,23 @@ pub struct Reader<'a> {
 }
 
 impl<'a> Reader<'a> {
+    pub fn at(bytes: &'a [u8], place: usize) -> Reader<'a>
+        ensures bytes { result.bytes.now ≡ bytes.now }
+        ensures place { result.place ≡ place }
+    {
+        Reader { bytes, place }
+    }
+
     /// Byte i, or 0 past the end.
     pub fn byte(&self, i: usize) -> u8
         ensures { result ≡ slice_index self.now.bytes.now i }
     {
-        if i < self.bytes.len() {
-            self.bytes[i]
-        } else {
-            0
-        }
+        self.bytes.get(i).copied().unwrap_or(0)
     }
 
     /// The next `width` bits as a number, those past the end as zeros. Three bytes hold them.
     fn peek(&self, width: usize) -> u16
-        requires { (width ≤ 16) × (self.now.place < 2 ^ 40) }
+        requires { width ≤ 16 }
         ensures value { result ≡ number self.now.bytes.now self.now.place width }
         ensures bound { result < 2 ^ width }
     {
@@ -45,13 +48,14 @@ impl<'a> Reader<'a> {
 
     /// Whether the bytes go on for `width` bits.
     fn has(&self, width: usize) -> bool
-        requires { (width ≤ 16) × (self.now.place < 2 ^ 40) }
+        requires { Room self.now width }
         ensures { result ≡ nat_le (self.now.place + width) (8 * length self.now.bytes.now) }
     {
         (self.place + width).div_ceil(8) <= self.bytes.len()
     }
 
     /// A field of `width` bits, at least `least` and at most `most`; another is refused with `fault`.
+    #[tactic(auto, unfolding(crate::specs::Formats::taken))]
     pub fn within(
         &mut self,
         width: usize,
@@ -59,7 +63,9 @@ impl<'a> Reader<'a> {
         most: u16,
         fault: SheetFault,
     ) -> Result<u16, SheetFault>
-        requires { (width ≤ 16) × ((self.old.place < 2 ^ 40) × ((sheet_refusal fault).place ≡ Place.At self.old.place)) }
+        requires width { width ≤ 16 }
+        requires room { Room self.old width }
+        requires here { (sheet_refusal fault).place ≡ Place.At self.old.place }
         ensures reads { Reads (taken width least most (sheet_refusal fault)) (λ v. v) self.old result self.new }
         ensures fits { IfOk result (λ v. (v < 2 ^ width) × (least ≤ v) × (v ≤ most)) }
         ensures moves { Moves result self.old.place width self.new.place }
@@ -77,7 +83,8 @@ impl<'a> Reader<'a> {
 
     /// A count or a number with a limit.
     pub fn limited(&mut self, width: usize, least: u16, most: u16) -> Result<u16, SheetFault>
-        requires { (width ≤ 16) × (self.old.place < 2 ^ 40) }
+        requires width { width ≤ 16 }
+        requires room { Room self.old width }
         ensures reads { Reads (field width least most 3).reads (λ v. v) self.old result self.new }
         ensures fits { IfOk result (λ v. (v < 2 ^ width) × (least ≤ v) × (v ≤ most)) }
         ensures moves { Moves result self.old.place width self.new.place }
@@ -87,7 +94,8 @@ impl<'a> Reader<'a> {
 
     /// Bits that are not used.
     pub fn zeros(&mut self, width: usize) -> Result<u16, SheetFault>
-        requires { (width ≤ 16) × (self.old.place < 2 ^ 40) }
+        requires width { width ≤ 16 }
+        requires room { Room self.old width }
         ensures reads { Reads (field width 0 0 4).reads (λ v. v) self.old result self.new }
         ensures fits { IfOk result (λ v. v ≤ 0) }
         ensures moves { Moves result self.old.place width self.new.place }
@@ -96,8 +104,10 @@ impl<'a> Reader<'a> {
     }
 
     /// A field of `width` bits with any content.
+    #[tactic(auto, unfolding(crate::specs::Formats::taken))]
     pub fn take(&mut self, width: usize) -> Result<u16, SheetFault>
-        requires { (width ≤ 16) × (self.old.place < 2 ^ 40) }
+        requires width { width ≤ 16 }
+        requires room { Room self.old width }
         ensures reads { Reads (plain width).reads (λ v. v) self.old result self.new }
         ensures fits { IfOk result (λ v. v < 2 ^ width) }
         ensures moves { Moves result self.old.place width self.new.place }

@@ -4,7 +4,7 @@ ghost use Rattle.table.specs.Lists.{meant};
 ghost use Rattle.reading.specs.Formats.{many, signed};
 ghost use Rattle.reading.specs.Layout.{header_format, signal_format, span_format, edge_format, term_format, timer_format, process_format};
 ghost use Rattle.reading.specs.Opening.{process_bits};
-ghost use Rattle.reading.specs.Readings.{Reads, Moves};
+ghost use Rattle.reading.specs.Readings.{Room, Reads, Moves};
 
 use crate::fault::SheetFault;
 use crate::reader::Reader;
@@ -18,7 +18,7 @@ pub const EDGE_BITS: usize = 60;
 pub const TERM_BITS: usize = 20;
 
 /// The counts of a sheet's header.
-#[derive(Clone, Copy)]
+#[derive(Clone, Copy, Debug, PartialEq, Eq)]
 pub struct Counts {
     pub processes: u8,
     pub signals: u8,
@@ -27,8 +27,9 @@ pub struct Counts {
 }
 
 impl<'a> Reader<'a> {
+    #[tactic(auto, unfolding(crate::specs::Formats::after, crate::specs::Layout::header_format))]
     pub fn header(&mut self) -> Result<Counts, SheetFault>
-        requires { self.old.place < 2 ^ 34 }
+        requires { Room self.old 44 }
         ensures reads { Reads header_format.reads (λ c. c) self.old result self.new }
         ensures moves { Moves result self.old.place 44 self.new.place }
         ensures fits { IfOk result (λ c. (c.processes ≤ 8) × (c.signals ≤ 64) × (c.edges ≤ 2048) × (c.terms ≤ 4096)) }
@@ -47,8 +48,9 @@ impl<'a> Reader<'a> {
     }
 
     /// A signal of a sheet with so many processes.
+    #[tactic(auto, unfolding(crate::specs::Formats::after, crate::specs::Layout::signal_format))]
     pub fn signal(&mut self, processes: u8) -> Result<Signal, SheetFault>
-        requires { self.old.place < 2 ^ 34 }
+        requires { Room self.old 6 }
         ensures reads { Reads (signal_format processes).reads (λ s. s) self.old result self.new }
         ensures moves { Moves result self.old.place 6 self.new.place }
     {
@@ -62,16 +64,18 @@ impl<'a> Reader<'a> {
     }
 
     /// 16 bits, two's complement.
+    #[tactic(auto, unfolding(crate::specs::Formats::after))]
     fn integer(&mut self) -> Result<i16, SheetFault>
-        requires { self.old.place < 2 ^ 38 }
+        requires { Room self.old 16 }
         ensures reads { Reads signed.reads (λ z. z) self.old result self.new }
         ensures moves { Moves result self.old.place 16 self.new.place }
     {
         Ok(self.take(16)?.cast_signed())
     }
 
+    #[tactic(auto, unfolding(crate::specs::Formats::after, crate::specs::Layout::term_format))]
     pub fn term(&mut self) -> Result<Term, SheetFault>
-        requires { self.old.place < 2 ^ 34 }
+        requires { Room self.old 20 }
         ensures reads { Reads term_format.reads (λ t. t) self.old result self.new }
         ensures moves { Moves result self.old.place 20 self.new.place }
         ensures fits { IfOk result (λ t. t.operation ≤ 15) }
@@ -84,8 +88,9 @@ impl<'a> Reader<'a> {
         })
     }
 
+    #[tactic(auto, unfolding(crate::specs::Formats::after, crate::specs::Layout::span_format))]
     fn span(&mut self) -> Result<Span, SheetFault>
-        requires { self.old.place < 2 ^ 38 }
+        requires { Room self.old 17 }
         ensures reads { Reads span_format.reads (λ s. s) self.old result self.new }
         ensures moves { Moves result self.old.place 17 self.new.place }
     {
@@ -94,8 +99,9 @@ impl<'a> Reader<'a> {
         Ok(Span { start, count })
     }
 
+    #[tactic(auto, unfolding(crate::specs::Formats::after, crate::specs::Layout::edge_format))]
     pub fn edge(&mut self) -> Result<Edge, SheetFault>
-        requires { self.old.place < 2 ^ 34 }
+        requires { Room self.old 60 }
         ensures reads { Reads edge_format.reads (λ e. e) self.old result self.new }
         ensures moves { Moves result self.old.place 60 self.new.place }
     {
@@ -121,8 +127,9 @@ impl<'a> Reader<'a> {
         })
     }
 
+    #[tactic(auto, unfolding(crate::specs::Formats::after, crate::specs::Layout::timer_format))]
     fn timer(&mut self) -> Result<Timer, SheetFault>
-        requires { self.old.place < 2 ^ 38 }
+        requires { Room self.old 16 }
         ensures reads { Reads timer_format.reads (λ t. t) self.old result self.new }
         ensures moves { Moves result self.old.place 16 self.new.place }
     {
@@ -136,7 +143,8 @@ impl<'a> Reader<'a> {
 
     /// The first values of so many variables.
     fn values(&mut self, count: u8, values: &mut [i16; 8]) -> Result<(), SheetFault>
-        requires { (count ≤ 8) × (self.old.place < 2 ^ 36) }
+        requires count { count ≤ 8 }
+        requires room { Room self.old (16 * count) }
         ensures reads { Reads (many count signed).reads (λ _. take count values.new) self.old result self.new }
         ensures moves { Moves result self.old.place (16 * count) self.new.place }
     {
@@ -148,7 +156,8 @@ impl<'a> Reader<'a> {
 
     /// The first settings of so many timers.
     fn settings(&mut self, count: u8, settings: &mut [Timer; 8]) -> Result<(), SheetFault>
-        requires { (count ≤ 8) × (self.old.place < 2 ^ 36) }
+        requires count { count ≤ 8 }
+        requires room { Room self.old (16 * count) }
         ensures reads { Reads (many count timer_format).reads (λ _. take count settings.new) self.old result self.new }
         ensures moves { Moves result self.old.place (16 * count) self.new.place }
     {
@@ -158,8 +167,9 @@ impl<'a> Reader<'a> {
         Ok(())
     }
 
+    #[tactic(auto, unfolding(crate::specs::Formats::after, crate::specs::Layout::process_format))]
     pub fn process(&mut self) -> Result<Process, SheetFault>
-        requires { self.old.place < 2 ^ 34 }
+        requires { Room self.old 272 }
         ensures reads { Reads process_format.reads meant self.old result self.new }
         ensures size { IfOk result (λ p. self.new.place ≡ self.old.place + process_bits (meant p)) }
         ensures bound { self.new.place ≤ self.old.place + 272 }
