@@ -4,13 +4,15 @@
 --   Moves r p n q         a reader went from bit p to bit q: by n bits, or at most that many where it refuses
 --   Stays r q             a reader that refuses stands at the first bit of the field it refuses
 --   Reads f means s r t   a reader in state s returned r and is in state t then: the answer is that of f, and the bytes are the same
+--   Steps f w s r t       a reader read one record of the format f, of w bits
+--   Walks f d w n s r t   it read n of them, one behind the other; d stands for one that is refused
 --   value_or a d          the value of an answer, or d
 --   read_at f d bs p      what f reads at bit p of bs, or d where it refuses
 --   row_at f d bs p w n   n such values, each w bits behind the one before
 use Rattle.std.specs.Prelude.{◌≡◌, ℕ, ◌+◌, ◌*◌, ◌^◌, ◌<◌, ◌≤◌, List, map, Ok, Err, Result}
 use Rattle.std.specs.List.{range_with_len}
 use Rattle.reading.specs.Faults.{sheet_refusal}
-use Rattle.reading.specs.Formats.{Answer, Format, got, bad}
+use Rattle.reading.specs.Formats.{Answer, Format, got, bad, many}
 use Rattle.reading.specs.declared.reader.Reader.{Reader}
 use Rattle.reading.specs.declared.fault.SheetFault.{SheetFault}
 use Rattle.refusal.specs.declared.fault.Place.{Place}
@@ -44,3 +46,11 @@ read_at f d bs p = value_or (f.reads bs p) d
 
 abbrev pub row_at : {A : Type 0} → Format A → A → List ℕ → ℕ → ℕ → ℕ → List A
 row_at f d bs p w n = map (λ k. read_at f d bs (p + w * k)) (range_with_len 0 n)
+
+pub record Steps {A : Type 0} (f : Format A) (w : ℕ) (s : Reader) (r : Result A SheetFault) (t : Reader) : Type 0 where
+  pub reads : Reads f.reads (λ x. x) s r t
+  pub moves : Moves r s.place w t.place
+
+pub record Walks {A : Type 0} (f : Format A) (d : A) (w n : ℕ) (s : Reader) (r : Result Unit SheetFault) (t : Reader) : Type 0 where
+  pub reads : Reads (many n f).reads (λ _. row_at f d s.bytes.now s.place w n) s r t
+  pub moves : Moves r s.place (w * n) t.place

@@ -1,9 +1,9 @@
 //! The parts of a sheet: rows of records, the fill and the end.
-ghost use Rattle.std.specs.Prelude.{◌≡◌, ◌+◌, ◌-◌, ◌*◌, ◌/◌, ◌%◌, ◌^◌, ◌<◌, ◌≤◌, length, take, drop, IfOk, OnOk, slice_index};
-ghost use Rattle.reading.specs.Formats.{field, many, filled, ended};
+ghost use Rattle.std.specs.Prelude.{◌≡◌, ℕ, ◌+◌, ◌-◌, ◌*◌, ◌/◌, ◌%◌, ◌^◌, ◌<◌, ◌≤◌, length, take, drop, IfOk, OnOk, slice_index};
+ghost use Rattle.reading.specs.Formats.{Format, field, many, filled, ended};
 ghost use Rattle.reading.specs.Layout.{process_format, signal_format, edge_format, term_format, name_format};
 ghost use Rattle.reading.specs.Opening.{processes_bits, placed};
-ghost use Rattle.reading.specs.Readings.{Room, Reads, Moves};
+ghost use Rattle.reading.specs.Readings.{Room, Reads, Moves, Steps, Walks};
 ghost use Rattle.reading.specs.Rows.{processes_from, signals_from, edges_from, terms_from, text_at, texts_at, named_at, next_name};
 
 use crate::fault::SheetFault;
@@ -32,37 +32,45 @@ impl<'a> Reader<'a> {
         Ok(())
     }
 
+    /// So many records, of at most 64 bits each, one behind the other.
+    fn row<T: Drop, F: Fn(&mut Reader<'a>) -> Result<T, SheetFault>>(
+        &mut self,
+        count: usize,
+        read: F,
+    ) -> Result<(), SheetFault>
+        requires room { Room self.old (64 * count) }
+        requires callable { (s : _) → Room s.now 64 → F.pre read s }
+        requires narrow { (s r t : _) → F.post read s r t → t.now.place ≤ s.now.place + 64 }
+        ensures { (f : Format T) (d : T) (w : ℕ) → ((s r t : _) → F.post read s r t → Steps f w s.now r t.now) → Walks f d w count self.old result self.new }
+    {
+        for _ in 0..count {
+            read(self)?;
+        }
+        Ok(())
+    }
+
     pub fn signals(&mut self, count: u8, processes: u8) -> Result<(), SheetFault>
-        requires { Room self.old (6 * count) }
+        requires { Room self.old (64 * count) }
         ensures reads { Reads (many count (signal_format processes)).reads (λ _. signals_from self.old.bytes.now self.old.place processes count) self.old result self.new }
         ensures moves { Moves result self.old.place (6 * count) self.new.place }
     {
-        for _i in 0..usize::from(count) {
-            self.signal(processes)?;
-        }
-        Ok(())
+        self.row(usize::from(count), |r| r.signal(processes))
     }
 
     pub fn edges(&mut self, count: u16) -> Result<(), SheetFault>
-        requires { Room self.old (60 * count) }
+        requires { Room self.old (64 * count) }
         ensures reads { Reads (many count edge_format).reads (λ _. edges_from self.old.bytes.now self.old.place count) self.old result self.new }
         ensures moves { Moves result self.old.place (60 * count) self.new.place }
     {
-        for _i in 0..usize::from(count) {
-            self.edge()?;
-        }
-        Ok(())
+        self.row(usize::from(count), Reader::edge)
     }
 
     pub fn terms(&mut self, count: u16) -> Result<(), SheetFault>
-        requires { Room self.old (20 * count) }
+        requires { Room self.old (64 * count) }
         ensures reads { Reads (many count term_format).reads (λ _. terms_from self.old.bytes.now self.old.place count) self.old result self.new }
         ensures moves { Moves result self.old.place (20 * count) self.new.place }
     {
-        for _i in 0..usize::from(count) {
-            self.term()?;
-        }
-        Ok(())
+        self.row(usize::from(count), Reader::term)
     }
 
     /// Zero bits up to the next whole byte.
