@@ -60,6 +60,12 @@ byte-front bs i (suc k) h le =
 pub number-byte : (bs : List ℕ) (i : ℕ) → get_or bs i 0 < 256 → number bs (8 * i) 8 ≡ get_or bs i 0
 number-byte bs i h = byte-front bs i 8 h (omega arith) ∙ omega arith
 
+-- a byte that begins at a bit of its own
+pub number_aligned : (bs : List ℕ) (p : ℕ) → p % 8 ≡ 0 → get_or bs (p / 8) 0 < 256 → number bs p 8 ≡ get_or bs (p / 8) 0
+number_aligned bs p e h =
+    let q : 8 * (p / 8) ≡ p = omega arith in
+    ap (λ k. number bs k 8) (sym q) ∙ number-byte bs (p / 8) h
+
 pub number-bytes : (bs : List ℕ) (i n : ℕ) → get_or bs i 0 < 256 → number bs (8 * i) (8 + n) ≡ get_or bs i 0 * 2 ^ n + number bs (8 * (i + 1)) n
 number-bytes bs i n h =
     let e : 8 * i + 8 ≡ 8 * (i + 1) = omega arith in

@@ -1,5 +1,6 @@
 -- A row of records: one more of them, and the first that is refused.
-use Rattle.std.proofs.Common.{◌≡◌, ℕ, zero, suc, ◌+◌, ◌-◌, ◌*◌, ◌<◌, List, [], ◌∷◌, ◌++◌, IsErrAnd, Ok, Err, Result, sym, refl, ap, ◌∙◌, subst, add-one, arith}
+use Rattle.std.proofs.Common.{◌≡◌, ℕ, zero, suc, ◌+◌, ◌-◌, ◌*◌, ◌<◌, ◌≤◌, List, [], ◌∷◌, ◌++◌, IsErrAnd, Ok, Err, Result, sym, refl, ap, ◌∙◌, subst, add-one, arith}
+use Rattle.std.proofs.Math.Nat.{mul-suc, mul-le-mul_left}
 use Rattle.std.proofs.lemmas.List.FromFn.{map-range_with_len_more}
 use Rattle.reading.proofs.Chains.{read, refused, exit}
 use Rattle.reading.specs.Faults.{sheet_refusal}
@@ -8,6 +9,10 @@ use Rattle.reading.specs.Readings.{Reads, value_or, read_at, row_at}
 use Rattle.reading.specs.declared.fault.SheetFault.{SheetFault}
 use Rattle.reading.specs.declared.reader.Reader.{Reader}
 use Rattle.refusal.specs.declared.fault.Refusal.{Refusal}
+
+-- one more of n steps of w
+pub reach : (w i n : ℕ) → i < n → (w * (i + 1) ≡ w * i + w) × (w * (i + 1) ≤ w * n)
+reach w i n h = (rw add-one (mul-suc w i), mul-le-mul_left w (omega arith))
 
 pub each_none : {A : Type 0} (f : ℕ → Answer A) (p : ℕ) → each 0 f p ≡ got [] p
 unfolding each

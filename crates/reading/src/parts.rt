@@ -25,8 +25,8 @@ impl<'a> Reader<'a> {
         ensures size { OnOk result (self.new.place ≡ self.old.place + processes_bits (processes_from self.old.bytes.now (take count places.new))) }
         ensures bound { self.new.place ≤ self.old.place + 272 * count }
     {
-        for i in 0..usize::from(count) {
-            places[i] = self.place as u32;
+        for place in places[..usize::from(count)].iter_mut() {
+            *place = self.place as u32;
             self.process()?;
         }
         Ok(())
@@ -83,6 +83,7 @@ impl<'a> Reader<'a> {
     }
 
     /// A whole byte of a name.
+    #[tactic(auto, using(crate::proofs::Numbers::number_aligned), unfolding(crate::specs::Formats::taken))]
     fn name_byte(&mut self, least: u8, most: u8) -> Result<u8, SheetFault>
         requires whole_byte { self.old.place % 8 ≡ 0 }
         requires room { Room self.old 8 }
@@ -90,12 +91,11 @@ impl<'a> Reader<'a> {
         ensures moves { Moves result self.old.place 8 self.new.place }
         ensures byte { IfOk result (λ v. (v ≡ slice_index self.old.bytes.now (self.old.place / 8)) × (self.old.place / 8 < length self.old.bytes.now) × (v ≤ most)) }
     {
-        let i = self.place / 8;
-        if i >= self.bytes.len() {
+        if !self.has(8) {
             return Err(SheetFault::Short(self.place));
         }
-        let byte = self.bytes[i];
-        if byte < least || most < byte {
+        let byte = self.byte(self.place / 8);
+        if !(least..=most).contains(&byte) {
             return Err(SheetFault::Name(self.place));
         }
         self.place += 8;

@@ -47,7 +47,7 @@ impl<'a> Reader<'a> {
     }
 
     /// Whether the bytes go on for `width` bits.
-    fn has(&self, width: usize) -> bool
+    pub(crate) fn has(&self, width: usize) -> bool
         requires { Room self.now width }
         ensures { result ≡ nat_le (self.now.place + width) (8 * length self.now.bytes.now) }
     {
@@ -74,7 +74,7 @@ impl<'a> Reader<'a> {
             return Err(SheetFault::Short(self.place));
         }
         let value = self.peek(width);
-        if value < least || most < value {
+        if !(least..=most).contains(&value) {
             return Err(fault);
         }
         self.place += width;

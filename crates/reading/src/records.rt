@@ -1,7 +1,7 @@
 //! The records of a sheet, each read field by field up to its first fault.
-ghost use Rattle.std.specs.Prelude.{◌≡◌, ◌+◌, ◌*◌, ◌^◌, ◌<◌, ◌≤◌, take, IfOk};
+ghost use Rattle.std.specs.Prelude.{◌≡◌, ◌+◌, ◌*◌, ◌^◌, ◌<◌, ◌≤◌, length, take, IfOk};
 ghost use Rattle.table.specs.Lists.{meant};
-ghost use Rattle.reading.specs.Formats.{many, signed};
+ghost use Rattle.reading.specs.Formats.{Format, many, signed};
 ghost use Rattle.reading.specs.Layout.{header_format, signal_format, span_format, edge_format, term_format, timer_format, process_format};
 ghost use Rattle.reading.specs.Opening.{process_bits};
 ghost use Rattle.reading.specs.Readings.{Room, Reads, Moves};
@@ -141,28 +141,22 @@ impl<'a> Reader<'a> {
         }
     }
 
-    /// The first values of so many variables.
-    fn values(&mut self, count: u8, values: &mut [i16; 8]) -> Result<(), SheetFault>
-        requires count { count ≤ 8 }
+    /// The first of the places, 16 bits each.
+    fn read_first<T: Copy, F: Fn(&mut Reader<'a>) -> Result<T, SheetFault>>(
+        &mut self,
+        count: u8,
+        places: &mut [T],
+        read: F,
+    ) -> Result<(), SheetFault>
+        requires count { count ≤ length places.old }
         requires room { Room self.old (16 * count) }
-        ensures reads { Reads (many count signed).reads (λ _. take count values.new) self.old result self.new }
+        requires callable { (s : _) → Room s.now 16 → F.pre read s }
+        requires sixteen { (s r t : _) → F.post read s r t → Moves r s.now.place 16 t.now.place }
+        ensures reads { (f : Format T) → ((s r t : _) → F.post read s r t → Reads f.reads (λ x. x) s.now r t.now) → Reads (many count f).reads (λ _. take count places.new) self.old result self.new }
         ensures moves { Moves result self.old.place (16 * count) self.new.place }
     {
-        for i in 0..usize::from(count) {
-            values[i] = self.integer()?;
-        }
-        Ok(())
-    }
-
-    /// The first settings of so many timers.
-    fn settings(&mut self, count: u8, settings: &mut [Timer; 8]) -> Result<(), SheetFault>
-        requires count { count ≤ 8 }
-        requires room { Room self.old (16 * count) }
-        ensures reads { Reads (many count timer_format).reads (λ _. take count settings.new) self.old result self.new }
-        ensures moves { Moves result self.old.place (16 * count) self.new.place }
-    {
-        for i in 0..usize::from(count) {
-            settings[i] = self.timer()?;
+        for place in places[..usize::from(count)].iter_mut() {
+            *place = read(self)?;
         }
         Ok(())
     }
@@ -174,14 +168,21 @@ impl<'a> Reader<'a> {
         ensures size { IfOk result (λ p. self.new.place ≡ self.old.place + process_bits (meant p)) }
         ensures bound { self.new.place ≤ self.old.place + 272 }
     {
-        let mut process = Process::BLANK;
         let last = self.take(4)?;
-        process.locations = last as u8 + 1;
-        process.variables = self.limited(4, 0, limits::VARIABLES as u16)? as u8;
-        process.timers = self.limited(4, 0, limits::TIMERS as u16)? as u8;
-        process.first = self.limited(4, 0, last)? as u8;
-        self.values(process.variables, &mut process.values)?;
-        self.settings(process.timers, &mut process.settings)?;
-        Ok(process)
+        let variables = self.limited(4, 0, limits::VARIABLES as u16)? as u8;
+        let timers = self.limited(4, 0, limits::TIMERS as u16)? as u8;
+        let first = self.limited(4, 0, last)? as u8;
+        let mut values = [0; 8];
+        self.read_first(variables, &mut values, Reader::integer)?;
+        let mut settings = [Timer::Off; 8];
+        self.read_first(timers, &mut settings, Reader::timer)?;
+        Ok(Process {
+            locations: last as u8 + 1,
+            first,
+            variables,
+            timers,
+            values,
+            settings,
+        })
     }
 }

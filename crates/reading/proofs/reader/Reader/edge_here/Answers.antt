@@ -1,4 +1,4 @@
-use Rattle.std.proofs.Common.{◌≡◌, ap, ◌∙◌, arith}
+use Rattle.std.proofs.Common.{ap, arith}
 use Rattle.reading.proofs.Loads.{unpacked, edge-loaded}
 use Rattle.reading.proofs.reader.Reader.edge_here.Goals as goal
 

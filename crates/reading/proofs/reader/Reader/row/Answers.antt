@@ -1,12 +1,7 @@
-use Rattle.std.proofs.Common.{◌≡◌, ℕ, ◌+◌, ◌*◌, ◌<◌, ◌≤◌, refl, subst, add-one, arith, rules}
-use Rattle.std.proofs.Math.Nat.{mul-suc, mul-le-mul_left}
+use Rattle.std.proofs.Common.{◌≡◌, ℕ, ◌+◌, ◌*◌, refl, subst, arith, rules}
 use Rattle.reading.specs.Readings.{row_at}
-use Rattle.reading.proofs.Rows.{Row, row-none, row_next, row-exit, row-all}
+use Rattle.reading.proofs.Rows.{Row, reach, row-none, row_next, row-exit, row-all}
 use Rattle.reading.proofs.reader.Reader.row.Goals as goal
-
--- one more of n steps of w
-reach : (w i n : ℕ) → i < n → (w * (i + 1) ≡ w * i + w) × (w * (i + 1) ≤ w * n)
-reach w i n h = (rw add-one (mul-suc w i), mul-le-mul_left w (omega arith))
 
 pub loop-init : goal.loop-init
 loop-init g c = (λ f d w h. (row-none f.reads c.args.self.now, omega arith), omega arith)
@@ -21,8 +16,7 @@ returns-in_err-read g c = λ f d w h.
 
 pub loop-preserved : goal.loop-preserved
 loop-preserved g c =
-    let n = c.requires.narrow _ _ _ c.read.ensures in
-    (
+    let n = c.requires.narrow _ _ _ c.read.ensures in (
       λ f d w h.
           let i = c.loop.invariant.0 f d w h in
           let k = h _ _ _ c.read.ensures in
