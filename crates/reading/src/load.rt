@@ -8,20 +8,6 @@ ghost use Rattle.reading.specs.Rows.{no_edge};
 use crate::reader::Reader;
 use table::record::{Edge, Span};
 
-const NO_SPAN: Span = Span { start: 0, count: 0 };
-
-const NO_EDGE: Edge = Edge {
-    process: 0,
-    from: 0,
-    to: 0,
-    kind: 0,
-    first: 0,
-    second: 0,
-    mode: 0,
-    guard: NO_SPAN,
-    value: NO_SPAN,
-};
-
 /// The field of `width` bits at bit `at` of an edge's 60.
 fn part(word: u64, at: u32, width: u32) -> u16
     requires inside { at + width ≤ 60 }
@@ -50,7 +36,9 @@ impl<'a> Reader<'a> {
         ensures { result ≡ read_at edge_format no_edge self.now.bytes.now self.now.place }
     {
         let Some(word) = self.word() else {
-            return Reader::at(self.bytes, self.place).edge().unwrap_or(NO_EDGE);
+            return Reader::at(self.bytes, self.place)
+                .edge()
+                .unwrap_or_default();
         };
         Edge {
             process: part(word, 0, 3) as u8,
