@@ -1,7 +1,7 @@
 -- Where the names begin.
-use Rattle.std.proofs.Common.{◌≡◌, ℕ, ◌+◌, ◌-◌, ◌<◌, ◌≤◌, min, List, [], ◌∷◌, ◌++◌, map, length, get_or, take, drop, Some, None, sym, refl, ap, ◌∙◌, ⊎_elim, add-one, arith}
-use Rattle.std.proofs.lemmas.List.FromFn.{map-range_with_len_more, take-map-range_with_len, length-map-range_with_len, get_or-map-range_with_len}
-use Rattle.std.proofs.lemmas.List.{length-drop, get_or-drop, take_all, drop_all}
+use Rattle.std.proofs.Common.{◌≡◌, ℕ, ◌+◌, ◌-◌, ◌<◌, ◌≤◌, min, List, [], ◌∷◌, ◌++◌, map, length, get_or, take, drop, Some, None, sym, refl, ap, ◌∙◌, ⊎_elim, add-one, arith, length-take}
+use Rattle.std.proofs.lemmas.List.FromFn.{map-range_with_len_more, length-map-range_with_len, get_or-map-range_with_len}
+use Rattle.std.proofs.lemmas.List.{length-drop, get_or-drop, get_or-take, take_all, drop_all}
 use Rattle.std.proofs.lemmas.Option.{slice_get-get_or, slice_get_past}
 use Rattle.std.proofs.lemmas.Bool.{cases_lt}
 use Rattle.std.specs.List.{slice_get, range_with_len}
@@ -73,24 +73,16 @@ clipped xs a n f t ef et = ⊎_elim inside outside (cases_lt a (length xs))
         let e : t - f ≡ 0 = omega arith in
         ap (λ i. take i (drop f xs)) e ∙ sym (ap (take n) (drop_all a xs h) ∙ take_all n [] (omega arith))
 
-module _ {A : Type 0} (f : ℕ → A) (d : A) (n m : ℕ) where
-  pub nth-first : (k : ℕ) → k < n → slice_get (take n (map f (range_with_len 0 (n + m)))) k ≡ Some (f k)
-  nth-first k h =
-      let e : take n (map f (range_with_len 0 (n + m))) ≡ map f (range_with_len 0 n) = take-map-range_with_len f 0 (n + m) n (omega arith) in
-      ap (λ xs. slice_get xs k) e ∙ slice_get-get_or (map f (range_with_len 0 n)) k d (rw (length-map-range_with_len f 0 n) h) ∙ ap Some (get_or-map-range_with_len f 0 n k k d h (omega arith))
+-- a part of a row
+module _ {A : Type 0} (f : ℕ → A) (d : A) (all first count k : ℕ) (room : first + count ≤ all) where
+  length-part : length (take count (drop first (map f (range_with_len 0 all)))) ≡ count
+  length-part =
+      omega (arith, length-take count (drop first (map f (range_with_len 0 all))), length-drop first (map f (range_with_len 0 all)), length-map-range_with_len f 0 all)
 
-  pub nth-first-past : (k : ℕ) → n ≤ k → slice_get (take n (map f (range_with_len 0 (n + m)))) k ≡ None
-  nth-first-past k h =
-      let e : take n (map f (range_with_len 0 (n + m))) ≡ map f (range_with_len 0 n) = take-map-range_with_len f 0 (n + m) n (omega arith) in
-      ap (λ xs. slice_get xs k) e ∙ slice_get_past (map f (range_with_len 0 n)) k (rw (length-map-range_with_len f 0 n) h)
+  pub nth-part : k < count → slice_get (take count (drop first (map f (range_with_len 0 all)))) k ≡ Some (f (first + k))
+  nth-part h =
+      slice_get-get_or (take count (drop first (map f (range_with_len 0 all)))) k d (rw length-part h) ∙
+      ap Some (get_or-take count (drop first (map f (range_with_len 0 all))) k d h ∙ get_or-drop first (map f (range_with_len 0 all)) k d ∙ get_or-map-range_with_len f 0 all (first + k) (first + k) d (omega arith) (omega arith))
 
-  length-second : length (drop n (map f (range_with_len 0 (n + m)))) ≡ m
-  length-second = omega (arith, length-drop n (map f (range_with_len 0 (n + m))), length-map-range_with_len f 0 (n + m))
-
-  pub nth-second : (k : ℕ) → k < m → slice_get (drop n (map f (range_with_len 0 (n + m)))) k ≡ Some (f (n + k))
-  nth-second k h =
-      slice_get-get_or (drop n (map f (range_with_len 0 (n + m)))) k d (rw length-second h) ∙
-      ap Some (get_or-drop n (map f (range_with_len 0 (n + m))) k d ∙ get_or-map-range_with_len f 0 (n + m) (n + k) (n + k) d (omega arith) (omega arith))
-
-  pub nth-second-past : (k : ℕ) → m ≤ k → slice_get (drop n (map f (range_with_len 0 (n + m)))) k ≡ None
-  nth-second-past k h = slice_get_past (drop n (map f (range_with_len 0 (n + m)))) k (rw length-second h)
+  pub nth-part-past : count ≤ k → slice_get (take count (drop first (map f (range_with_len 0 all)))) k ≡ None
+  nth-part-past h = slice_get_past (take count (drop first (map f (range_with_len 0 all)))) k (rw length-part h)

@@ -41,3 +41,6 @@ length-processes bs places n = length-map (take n places) (λ p. read_at process
 pub get_or-processes : (bs places : List ℕ) (n p : ℕ) (d : Proc) → p < n → p < length places → get_or (processes_from bs (take n places)) p d ≡ read_at process_format blank bs (get_or places p 0)
 get_or-processes bs places n p d h k =
     get_or-map (λ q. read_at process_format blank bs q) (take n places) p 0 d (simp length-take (omega arith)) ∙ ap (read_at process_format blank bs) (get_or-take n places p 0 h)
+
+-- what a view's goals ask
+pub ruleset rows = (length-row, nth-row, nth-row-past, read-or, length-processes, get_or-processes)

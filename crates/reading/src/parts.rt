@@ -110,7 +110,7 @@ impl<'a> Reader<'a> {
         ensures moves { Moves result self.old.place (8 * count) self.new.place }
         ensures whole { OnOk result (length (take count (drop (self.old.place / 8) self.old.bytes.now)) ≡ count) }
     {
-        for _i in 0..usize::from(count) {
+        for _ in 0..usize::from(count) {
             self.name_byte(b'!', b'~')?;
         }
         Ok(())
@@ -135,7 +135,7 @@ impl<'a> Reader<'a> {
         ensures reads { Reads (many count name_format).reads (λ _. texts_at self.old.bytes.now (self.old.place / 8) count) self.old result self.new }
         ensures places { OnOk result (placed (self.old.place / 8) (texts_at self.old.bytes.now (self.old.place / 8) count) ≡ named_at self.old.bytes.now (self.old.place / 8) count) }
     {
-        for _i in 0..count {
+        for _ in 0..count {
             self.name()?;
         }
         Ok(())

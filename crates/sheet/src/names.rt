@@ -1,8 +1,8 @@
 //! Names, answered as the very parts of the sheet that hold them.
-ghost use Rattle.std.specs.Prelude.{◌≡◌, ◌+◌, ◌^◌, ◌<◌, ◌≤◌};
+ghost use Rattle.std.specs.Prelude.{◌≡◌, ◌+◌, ◌^◌, ◌<◌, ◌≤◌, take, drop};
 ghost use Rattle.std.specs.List.{slice_get};
 ghost use Rattle.reading.specs.Rows.{name_start, text_at};
-ghost use Rattle.sheet.specs.Views.{bytes_of, opened_of, heard};
+ghost use Rattle.sheet.specs.Views.{bytes_of, names_of, opened_of, heard};
 
 use crate::view::Sheet;
 use reading::reader::Reader;
@@ -14,10 +14,9 @@ impl<'a> Sheet<'a> {
         ensures value { result ≡ name_start (bytes_of self.now) self.now.names_at k }
         ensures bound { result < 2 ^ 33 }
     {
-        let bytes = self.bytes;
-        let reader = Reader { bytes, place: 0 };
+        let reader = Reader::at(self.bytes, 0);
         let mut at = self.names_at as usize;
-        for _i in 0..k {
+        for _ in 0..k {
             at += 1 + usize::from(reader.byte(at));
         }
         at
@@ -31,29 +30,35 @@ impl<'a> Sheet<'a> {
     {
         let bytes = self.bytes;
         let start = self.name_start(k);
-        let length = usize::from(Reader { bytes, place: 0 }.byte(start));
+        let length = usize::from(Reader::at(bytes, 0).byte(start));
         let from = (start + 1).min(bytes.len());
         let to = (start + 1 + length).min(bytes.len());
         (start + 1, &bytes[from..to])
     }
 
+    /// Name k of the `count` names from number `first` on.
+    fn name_among(&self, first: u8, count: u8, k: usize) -> Option<(usize, &'a [u8])>
+        requires { first + count ≤ self.now.counts.processes + self.now.counts.signals }
+        ensures { heard result ≡ slice_get (take count (drop first (names_of self.now))) k }
+    {
+        if k >= usize::from(count) {
+            return None;
+        }
+        Some(self.name(usize::from(first) + k))
+    }
+
     /// The name of process p with its place in the sheet.
+    #[tactic(auto, unfolding(crate::specs::Views::opened_of))]
     pub fn process_name(&self, p: usize) -> Option<(usize, &'a [u8])>
         ensures { heard result ≡ slice_get (opened_of self.now).process_names p }
     {
-        if p >= usize::from(self.counts.processes) {
-            return None;
-        }
-        Some(self.name(p))
+        self.name_among(0, self.counts.processes, p)
     }
 
     /// The name of signal s with its place in the sheet.
     pub fn signal_name(&self, s: usize) -> Option<(usize, &'a [u8])>
         ensures { heard result ≡ slice_get (opened_of self.now).signal_names s }
     {
-        if s >= usize::from(self.counts.signals) {
-            return None;
-        }
-        Some(self.name(usize::from(self.counts.processes) + s))
+        self.name_among(self.counts.processes, self.counts.signals, s)
     }
 }

@@ -20,6 +20,7 @@ use table::limits;
 use table::questions::Table;
 
 /// All parts of a sheet.
+#[tactic(auto, unfolding(reading::specs::Formats::after, reading::specs::Layout::sheet_format))]
 fn read_sheet<'a>(reader: &mut Reader<'a>) -> Result<Sheet<'a>, SheetFault>
     requires { reader.old.place ≡ 0 }
     ensures reads { Reads sheet_format.reads contents_of reader.old result reader.new }
@@ -55,19 +56,14 @@ fn check_edge(sheet: &Sheet<'_>, k: usize) -> Result<(), EdgeAt>
     requires { k < 2 ^ 16 }
     ensures { outcome edge_at_refusal result ≡ answer_at (edge_refused_at (lists_of sheet.now) sheet.now.edges_at) k (slice_get (lists_of sheet.now).edges k) }
 {
-    match sheet.edge(k) {
-        None => Ok(()),
-        Some(edge) => match edge::check(sheet, &edge) {
-            Ok(()) => Ok(()),
-            Err(fault) => {
-                let bit = sheet.edges_at as usize + EDGE_BITS * k;
-                Err(EdgeAt {
-                    bad: BadEdge { edge: k, fault },
-                    bit,
-                })
-            }
-        },
-    }
+    let Some(edge) = sheet.edge(k) else {
+        return Ok(());
+    };
+    let bit = sheet.edges_at as usize + EDGE_BITS * k;
+    edge::check(sheet, &edge).map_err(|fault| EdgeAt {
+        bad: BadEdge { edge: k, fault },
+        bit,
+    })
 }
 
 /// The first edge that may not stand in the sheet's table.
@@ -81,10 +77,11 @@ fn check_edges(sheet: &Sheet<'_>) -> Result<(), EdgeAt>
 }
 
 /// Reads all fields in their order and then looks at the edges. The first fault decides.
+#[tactic(auto, unfolding(reading::specs::Opening::opened, crate::specs::Views::contents_of))]
 pub fn open_sheet(bytes: &[u8]) -> Result<Sheet<'_>, SheetFault>
     ensures { result_map_both opened_of sheet_refusal result ≡ opened bytes.now }
 {
-    let sheet = read_sheet(&mut Reader { bytes, place: 0 })?;
+    let sheet = read_sheet(&mut Reader::at(bytes, 0))?;
     check_edges(&sheet)?;
     Ok(sheet)
 }

@@ -8,11 +8,6 @@ use table::limits;
 use table::questions::Table;
 use table::record::{Edge, Process, Signal, Term};
 
-const NO_TERM: Term = Term {
-    operation: 0,
-    argument: 0,
-};
-
 /// A view over the bytes of a sheet, with the places of its parts: bits, but for the names' byte.
 #[derive(Clone, Copy)]
 pub struct Sheet<'a> {
@@ -26,6 +21,7 @@ pub struct Sheet<'a> {
     pub(crate) names_at: u32,
 }
 
+#[tactic(auto, using(reading::proofs::Viewing::rows), unfolding(crate::specs::Views::lists_of))]
 impl<'a> Table for Sheet<'a> {
     ghost lists = { lists_of };
 
@@ -46,14 +42,11 @@ impl<'a> Table for Sheet<'a> {
     }
 
     fn process(&self, p: usize, place: &mut Process) -> bool {
-        if p >= usize::from(self.counts.processes) || p >= limits::PROCESSES {
+        let Some(&at) = self.places[..self.process_count()].get(p) else {
             return false;
-        }
-        let bytes = self.bytes;
-        let at = self.places[p] as usize;
-        *place = Reader { bytes, place: at }
-            .process()
-            .unwrap_or(Process::BLANK);
+        };
+        let process = Reader::at(self.bytes, at as usize).process();
+        *place = process.unwrap_or(Process::BLANK);
         true
     }
 
@@ -61,9 +54,8 @@ impl<'a> Table for Sheet<'a> {
         if s >= usize::from(self.counts.signals) {
             return None;
         }
-        let bytes = self.bytes;
         let place = self.signals_at as usize + SIGNAL_BITS * s;
-        let signal = Reader { bytes, place }.signal(self.counts.processes);
+        let signal = Reader::at(self.bytes, place).signal(self.counts.processes);
         Some(signal.unwrap_or(Signal::ABSENT))
     }
 
@@ -71,17 +63,15 @@ impl<'a> Table for Sheet<'a> {
         if k >= usize::from(self.counts.edges) {
             return None;
         }
-        let bytes = self.bytes;
         let place = self.edges_at as usize + EDGE_BITS * k;
-        Some(Reader { bytes, place }.edge_here())
+        Some(Reader::at(self.bytes, place).edge_here())
     }
 
     fn term(&self, i: usize) -> Option<Term> {
         if i >= usize::from(self.counts.terms) {
             return None;
         }
-        let bytes = self.bytes;
         let place = self.terms_at as usize + TERM_BITS * i;
-        Some(Reader { bytes, place }.term().unwrap_or(NO_TERM))
+        Some(Reader::at(self.bytes, place).term().unwrap_or_default())
     }
 }

@@ -1,40 +1,6 @@
 use Rattle.std.proofs.Common.{◌≡◌, ◌+◌, ◌≤◌, length, arith, rules}
 use Rattle.sheet.proofs.Wholes.{sheet-read, sheet-edges, sheet-opened}
-use Rattle.reading.specs.Formats.{after}
-use Rattle.reading.specs.Layout.{sheet_format}
 use Rattle.sheet.proofs.opening.read_sheet.Goals as goal
-
-pub returns-in_err-counts : goal.returns-in_err-counts
-unfolding after sheet_format
-returns-in_err-counts c = search rules
-
-pub returns-in_err-processes : goal.returns-in_err-processes
-unfolding after sheet_format
-returns-in_err-processes c = search rules
-
-pub returns-in_err-signals : goal.returns-in_err-signals
-unfolding after sheet_format
-returns-in_err-signals c = search rules
-
-pub returns-in_err-edges : goal.returns-in_err-edges
-unfolding after sheet_format
-returns-in_err-edges c = search rules
-
-pub returns-in_err-terms : goal.returns-in_err-terms
-unfolding after sheet_format
-returns-in_err-terms c = search rules
-
-pub returns-in_err-fill : goal.returns-in_err-fill
-unfolding after sheet_format
-returns-in_err-fill c = search rules
-
-pub returns-in_err-names : goal.returns-in_err-names
-unfolding after sheet_format
-returns-in_err-names c = search rules
-
-pub returns-in_err-end : goal.returns-in_err-end
-unfolding after sheet_format
-returns-in_err-end c = search rules
 
 pub returns : goal.returns
 returns c =

@@ -4,37 +4,37 @@ use Rattle.reading.specs.Formats.{field}
 use Rattle.reading.proofs.Rows.{Row, row-none, row_more, row-exit, row-all}
 use Rattle.reading.proofs.reader.Reader.characters.Goals as goal
 
-pub loop-i-init : goal.loop-i-init
-loop-i-init c = (row-none (field 8 33 126 6).reads c.args.self.now, omega arith, refl)
+pub loop-init : goal.loop-init
+loop-init c = (row-none (field 8 33 126 6).reads c.args.self.now, omega arith, refl)
 
 pub returns-in_err-name_byte : goal.returns-in_err-name_byte
 returns-in_err-name_byte c = record {
-  reads = row-exit (omega arith) c.loop-i.invariant.0 c.name_byte.ensures.reads c.in_err-name_byte.was c.from_residual.ensures.1;
+  reads = row-exit (omega arith) c.loop.invariant.0 c.name_byte.ensures.reads c.in_err-name_byte.was c.from_residual.ensures.1;
   moves = search rules;
   whole = search rules;
 }
 
-pub loop-i-preserved : goal.loop-i-preserved
-loop-i-preserved c =
+pub loop-preserved : goal.loop-preserved
+loop-preserved c =
     let bs = c.args.self.now.bytes.now in
-    let i = c.loop-i._i in
+    let i = c.loop.counter in
     let a = c.args.self.now.place / 8 in
     let x = c.in_ok-name_byte.field-0 in
     let b = c.in_ok-name_byte.ensures.byte in
-    let q : c.loop-i.self.place / 8 ≡ a + i = omega arith in
-    let s = c.loop-i.invariant.0.same in
-    let v : x ≡ get_or bs (a + i) 0 = b.0 ∙ ap (λ ys. get_or ys (c.loop-i.self.place / 8) 0) s ∙ ap (λ k. get_or bs k 0) q in
+    let q : c.loop.self.place / 8 ≡ a + i = omega arith in
+    let s = c.loop.invariant.0.same in
+    let v : x ≡ get_or bs (a + i) 0 = b.0 ∙ ap (λ ys. get_or ys (c.loop.self.place / 8) 0) s ∙ ap (λ k. get_or bs k 0) q in
     let l : i < length (drop a bs) = omega (arith, b.1, ap length s, length-drop a bs) in
     let e : take (i + 1) (drop a bs) ≡ take i (drop a bs) ++ x ∷ [] = take_more (drop a bs) i 0 l ∙ ap (λ y. take i (drop a bs) ++ y ∷ []) (get_or-drop a bs i 0 ∙ sym v) in (
-      subst (λ (ys : List ℕ). Row (field 8 33 126 6).reads (i + 1) ys c.args.self.now c.name_byte.new.self) (sym e) (row_more c.loop-i.invariant.0 c.name_byte.ensures.reads c.in_ok-name_byte.was),
+      subst (λ (ys : List ℕ). Row (field 8 33 126 6).reads (i + 1) ys c.args.self.now c.name_byte.new.self) (sym e) (row_more c.loop.invariant.0 c.name_byte.ensures.reads c.in_ok-name_byte.was),
       omega (arith, c.in_ok-name_byte.ensures.moves),
-      omega (arith, ap length e, length_push (take i (drop a bs)) x, c.loop-i.invariant.2),
+      omega (arith, ap length e, length_push (take i (drop a bs)) x, c.loop.invariant.2),
     )
 
 pub returns : goal.returns
 returns c =
     let bs = c.args.self.now.bytes.now in
-    let n : c.loop-i._i ≡ c.args.count = omega arith in
-    let F = λ (k : ℕ). Row (field 8 33 126 6).reads k (take k (drop (c.args.self.now.place / 8) bs)) c.args.self.now c.loop-i.self in
+    let n : c.loop.counter ≡ c.args.count = omega arith in
+    let F = λ (k : ℕ). Row (field 8 33 126 6).reads k (take k (drop (c.args.self.now.place / 8) bs)) c.args.self.now c.loop.self in
     let G = λ (k : ℕ). length (take k (drop (c.args.self.now.place / 8) bs)) ≡ k in
-    record { reads = row-all tt (subst F n c.loop-i.invariant.0) refl; moves = omega arith; whole = subst G n c.loop-i.invariant.2 }
+    record { reads = row-all tt (subst F n c.loop.invariant.0) refl; moves = omega arith; whole = subst G n c.loop.invariant.2 }

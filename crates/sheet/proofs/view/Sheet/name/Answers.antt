@@ -8,6 +8,7 @@ pub returns : goal.returns
 returns c =
     let s = c.args.self.now in
     let a = c.name_start-start.result in
+    let b = rw c.at.ensures.bytes at c.byte.ensures in
     let n : c.from-length.result ≡ get_or (bytes_of s) a 0 = omega arith in
     let t : c.min-to.result ≡ min (a + 1 + get_or (bytes_of s) a 0) (length (bytes_of s)) = c.min-to.ensures ∙ ap (λ k. min (a + 1 + k) (length (bytes_of s))) n in
     record {

@@ -1,21 +1,12 @@
-use Rattle.std.proofs.Common.{ℕ, ◌+◌, List, [], Some, sym, ap, ◌∙◌, arith}
-use Rattle.reading.specs.Rows.{name_start, text_at}
-use Rattle.sheet.specs.Views.{bytes_of, names_of, opened_of}
-use Rattle.reading.proofs.Naming.{nth-second, nth-second-past}
+use Rattle.std.proofs.Common.{ap, ◌∙◌, arith, length-drop}
+use Rattle.std.proofs.lemmas.List.{take_all}
+use Rattle.std.proofs.lemmas.List.FromFn.{length-map-range_with_len}
+use Rattle.std.specs.List.{slice_get}
+use Rattle.sheet.specs.Views.{names_of, opened_of}
 use Rattle.sheet.proofs.view.Sheet.signal_name.Goals as goal
-
-pub returns-then-s-from : goal.returns-then-s-from
-unfolding opened_of names_of
-returns-then-s-from c =
-    let s = c.args.self.now in
-    let f : ℕ → ℕ × List ℕ = λ k. (name_start (bytes_of s) s.names_at k + 1, text_at (bytes_of s) (name_start (bytes_of s) s.names_at k)) in
-    sym (nth-second-past f (0, []) s.counts.processes s.counts.signals c.args.s (omega arith))
 
 pub returns : goal.returns
 unfolding opened_of names_of
 returns c =
     let s = c.args.self.now in
-    let f : ℕ → ℕ × List ℕ = λ k. (name_start (bytes_of s) s.names_at k + 1, text_at (bytes_of s) (name_start (bytes_of s) s.names_at k)) in
-    ap (λ k. Some (k, c.name.result.1.now)) c.name.ensures.place ∙ ap (λ t. Some ((f (c.from-2.result + c.args.s)).0, t)) c.name.ensures.text ∙
-    ap (λ k. Some (f (k + c.args.s))) c.from-2.ensures ∙
-    sym (nth-second f (0, []) s.counts.processes s.counts.signals c.args.s (omega arith))
+    c.name_among.ensures ∙ ap (λ xs. slice_get xs c.args.s) (take_all _ _ (simp (length-drop, length-map-range_with_len) (omega arith)))
