@@ -1,37 +1,30 @@
--- What a loop over a list, from its first element on, knows of the first answer found.
-use Rattle.std.proofs.Common.{◌≡◌, ℕ, ◌+◌, ◌-◌, ◌<◌, ◌≤◌, List, [], ◌∷◌, length, drop, Some, None, Option, sym, refl, ap, ◌∙◌, arith}
+-- The first answer of a question asked at number after number: as a loop finds it, and of a question about the elements of a list.
+use Rattle.std.proofs.Common.{◌≡◌, ℕ, suc, ◌+◌, ◌-◌, ◌<◌, ◌≤◌, List, [], ◌∷◌, length, Some, None, Option, refl, ap, ◌∙◌, arith}
 use Rattle.std.specs.List.{slice_get}
-use Rattle.std.proofs.lemmas.List.{drop_all, length-drop}
+use Rattle.std.specs.Option.{option_or}
 use Rattle.table.specs.Examination.{answer_at, first_at}
-use Rattle.table.proofs.Windows.{drop-some, drop-none}
+use Rattle.examination.specs.Firsts.{first_told}
 
-module _ {A R : Type 0} (f : ℕ → A → Option R) where
-  first-nil : (i : ℕ) → first_at f i [] ≡ None
-  unfolding first_at
-  first-nil i = refl
+module _ {R : Type 0} (f : ℕ → Option R) (i n : ℕ) where
+  pub told-end : n ≤ i → first_told f i (n - i) ≡ None
+  unfolding first_told
+  told-end le = let z : n - i ≡ 0 = omega arith in rw z
 
-  first-hit : (i : ℕ) (x : A) (xs : List A) (r : R) → f i x ≡ Some r → first_at f i (x ∷ xs) ≡ Some r
-  unfolding first_at
-  first-hit i x xs r h = rw h
+  pub told-hit : (r : R) → i < n → f i ≡ Some r → first_told f i (n - i) ≡ Some r
+  unfolding first_told
+  told-hit r lt t = let z : n - i ≡ suc (n - (i + 1)) = omega arith in rw (z, t)
 
-  first-miss : (i : ℕ) (x : A) (xs : List A) → f i x ≡ None → first_at f i (x ∷ xs) ≡ first_at f (i + 1) xs
-  unfolding first_at
-  first-miss i x xs h = rw h
+  pub told-miss : i < n → f i ≡ None → first_told f i (n - i) ≡ first_told f (i + 1) (n - (i + 1))
+  unfolding first_told
+  told-miss lt t = let z : n - i ≡ suc (n - (i + 1)) = omega arith in rw (z, t)
 
-  pub first-end : (xs : List A) (i : ℕ) → length xs ≤ i → first_at f i (drop i xs) ≡ None
-  first-end xs i h = ap (first_at f i) (drop_all i xs h) ∙ first-nil i
+told-from : {A R : Type 0} (f : ℕ → A → Option R) (g : ℕ → Option R) (xs : List A) (i : ℕ) → ((k : ℕ) → g (i + k) ≡ answer_at f (i + k) (slice_get xs k)) → first_told g i (length xs) ≡ first_at f i xs
+unfolding first_told first_at
+told-from f g [] i same = refl
+told-from f g (x ∷ xs) i same =
+    let z : i + 0 ≡ i = omega arith in
+    ap (λ o. option_or o (first_told g (i + 1) (length xs))) (rw z at (same 0)) ∙ ap (option_or (f i x)) (told-from f g xs (i + 1) (λ k. let q : i + 1 + k ≡ i + suc k = omega arith in rw q (same (suc k))))
 
-  -- a question at the place i, and what f says of its answer
-  pub first_found : (xs : List A) (i : ℕ) (r : R) → answer_at f i (slice_get xs i) ≡ Some r → first_at f i (drop i xs) ≡ Some r
-  first_found xs i r h = go (slice_get xs i) refl h
-    where
-      go : (o : Option A) → slice_get xs i ≡ o → answer_at f i o ≡ Some r → first_at f i (drop i xs) ≡ Some r
-      go None e t = let z : ◌≡◌ {A = ℕ} 0 1 = cc in absurd (omega arith)
-      go (Some x) e t = ap (first_at f i) (drop-some xs i x e) ∙ first-hit i x (drop (i + 1) xs) r t
-
-  pub first-passed : (xs : List A) (i : ℕ) → i < length xs → answer_at f i (slice_get xs i) ≡ None → first_at f i (drop i xs) ≡ first_at f (i + 1) (drop (i + 1) xs)
-  first-passed xs i lt h = go (slice_get xs i) refl h
-    where
-      go : (o : Option A) → slice_get xs i ≡ o → answer_at f i o ≡ None → first_at f i (drop i xs) ≡ first_at f (i + 1) (drop (i + 1) xs)
-      go None e t = let d = drop-none xs i e in let n : length xs - i ≡ 0 = sym (length-drop i xs) ∙ ap length d in absurd (omega arith)
-      go (Some x) e t = ap (first_at f i) (drop-some xs i x e) ∙ first-miss i x (drop (i + 1) xs) t
+-- a question about each element is the question about its place
+pub told-at : {A R : Type 0} (f : ℕ → A → Option R) (xs : List A) (n : ℕ) → n ≡ length xs → first_told (λ i. answer_at f i (slice_get xs i)) 0 n ≡ first_at f 0 xs
+told-at f xs n e = rw e (told-from f (λ i. answer_at f i (slice_get xs i)) xs 0 (λ k. let q : 0 + k ≡ k = omega arith in rw q))

@@ -2,10 +2,11 @@
 use Rattle.std.proofs.Common.{◌≡◌, ℕ, zero, suc, ◌<◌, ◌≤◌, Bool, true, false, cond, not, ◌&&◌, ◌||◌, ltb, leb, List, [], ◌∷◌, length, Some, None, refl, arith}
 use Rattle.std.specs.List.{slice_get}
 use Rattle.std.proofs.lemmas.Bool.{ltb-false, leb-true, or_parts, and_parts, not-false}
-use Rattle.table.specs.Examination.{acts, waits, frees, mixed, stuck, bad_process, too_many, limited, limits_refused, lists_refused, processes_refused, signals_refused, first_location, too_long}
+use Rattle.table.specs.Examination.{some, bad_process, too_many, limited, limits_refused, lists_refused, processes_refused, signals_refused, first_location, too_long}
 use Rattle.table.specs.Expressions.{any}
 use Rattle.table.specs.Lists.{Lists, Proc}
-use Rattle.examination.specs.Locations.{flagged, agree, has_at}
+use Rattle.table.specs.declared.record.Edge.{Edge}
+use Rattle.examination.specs.Locations.{has_at}
 use Rattle.examination.proofs.Nearest.{location-cong, first_passes, passes-parts}
 use Rattle.examination.proofs.Raised.{Raised}
 
@@ -36,23 +37,10 @@ module _ (T : Lists) (good : limits_refused T ≡ None) where
   pub sound-process : (p : ℕ) (r : Proc) → slice_get T.processes p ≡ Some r → bad_process r ≡ false
   sound-process p r e = not-refused (bad_process r) _ (first_passes (limited bad_process) T.processes 0 parts.1.0 p r e)
 
-  module _ (a b : List Bool) where
-    agree-true : (v : Bool) → agree v true ≡ v
-    agree-true true = refl
-    agree-true false = refl
-
-    agree-false : (v : Bool) → agree v false ≡ not v
-    agree-false true = refl
-    agree-false false = refl
-
-    pub mixed-found : Raised a acts T.edges → Raised b waits T.edges → first_location (flagged a b true) T.processes ≡ first_location (mixed T) T.processes
-    mixed-found ra rb = location-cong (flagged a b true) (mixed T) T.processes (λ p r l e lt.
+  -- flags that stand for the edges which pass f and g answer, at each location, what h answers of the edges
+  module _ (a b : List Bool) (f g : Edge → Bool) (ra : Raised a f T.edges) (rb : Raised b g T.edges) (with : Bool → Bool → Bool) where
+    pub found-alike : first_location (λ p l. with (has_at a p l) (has_at b p l)) T.processes ≡ first_location (λ p l. with (some T f p l) (some T g p l)) T.processes
+    found-alike = location-cong (λ p l. with (has_at a p l) (has_at b p l)) (λ p l. with (some T f p l) (some T g p l)) T.processes (λ p r l e lt.
         let hp : p < 8 = let n = nth-within T.processes p r e in let m = few-processes in omega arith in
         let hl : l < 16 = let n = few-locations r (sound-process p r e) in omega arith in
-        rw (agree-true (has_at b p l), ra p l hp hl, rb p l hp hl))
-
-    pub stuck-found : Raised a acts T.edges → Raised b frees T.edges → first_location (flagged a b false) T.processes ≡ first_location (stuck T) T.processes
-    stuck-found ra rb = location-cong (flagged a b false) (stuck T) T.processes (λ p r l e lt.
-        let hp : p < 8 = let n = nth-within T.processes p r e in let m = few-processes in omega arith in
-        let hl : l < 16 = let n = few-locations r (sound-process p r e) in omega arith in
-        rw (agree-false (has_at b p l), ra p l hp hl, rb p l hp hl))
+        rw (ra p l hp hl, rb p l hp hl))

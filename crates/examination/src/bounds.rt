@@ -4,10 +4,10 @@ ghost use Rattle.std.specs.List.{slice_get};
 ghost use Rattle.table.specs.Examination.{answer_at, limited, bad_process, bad_signal, lists_refused, processes_refused, signals_refused, limits_refused};
 ghost use Rattle.refusal.specs.Refusals.{outcome, table_refusal};
 
+use crate::first::first_fault;
 use refusal::fault::TableFault;
 use table::limits;
-use table::questions::Table;
-use table::record::Process;
+use table::questions::{Table, process_at};
 
 fn check_lists<T: Table>(table: &T) -> Result<(), TableFault>
     ensures { outcome table_refusal result ≡ lists_refused (T.lists table.now) }
@@ -25,8 +25,7 @@ fn check_lists<T: Table>(table: &T) -> Result<(), TableFault>
 fn check_process<T: Table>(table: &T, p: usize) -> Result<(), TableFault>
     ensures { outcome table_refusal result ≡ answer_at (limited bad_process) p (slice_get (T.lists table.now).processes p) }
 {
-    let mut process = Process::BLANK;
-    if table.process(p, &mut process) && process.is_bad() {
+    if process_at(table, p).is_some_and(|process| process.is_bad()) {
         return Err(TableFault::Limit(p));
     }
     Ok(())
@@ -35,28 +34,26 @@ fn check_process<T: Table>(table: &T, p: usize) -> Result<(), TableFault>
 fn check_processes<T: Table>(table: &T) -> Result<(), TableFault>
     ensures { outcome table_refusal result ≡ processes_refused (T.lists table.now) }
 {
-    for p in 0..table.process_count() {
-        check_process(table, p)?;
-    }
-    Ok(())
+    first_fault(table.process_count(), |p| check_process(table, p))
 }
 
 fn check_signal<T: Table>(table: &T, s: usize) -> Result<(), TableFault>
     ensures { outcome table_refusal result ≡ answer_at (limited (bad_signal (length (T.lists table.now).processes))) s (slice_get (T.lists table.now).signals s) }
 {
-    match table.signal(s) {
-        Some(signal) if signal.is_bad(table.process_count()) => Err(TableFault::Limit(s)),
-        _ => Ok(()),
+    let processes = table.process_count();
+    if table
+        .signal(s)
+        .is_some_and(|signal| signal.is_bad(processes))
+    {
+        return Err(TableFault::Limit(s));
     }
+    Ok(())
 }
 
 fn check_signals<T: Table>(table: &T) -> Result<(), TableFault>
     ensures { outcome table_refusal result ≡ signals_refused (T.lists table.now) }
 {
-    for s in 0..table.signal_count() {
-        check_signal(table, s)?;
-    }
-    Ok(())
+    first_fault(table.signal_count(), |s| check_signal(table, s))
 }
 
 /// Whether every list, process and signal is within its limits.

@@ -8,15 +8,15 @@ ghost use Rattle.refusal.specs.Refusals.{outcome, edge_number};
 use refusal::fault::EdgeFault;
 use table::expression::is_sound;
 use table::limits;
-use table::questions::Table;
+use table::questions::{Table, process_or_blank};
 use table::record::{Class, Edge, Kind, Mode, Process, Signal};
 
 /// Whether the edge may stand in the table, and if not, what is wrong with it first.
+#[tactic(auto, unfolding(table::specs::Edges::edge_fault))]
 pub fn check<T: Table>(table: &T, edge: &Edge) -> Result<(), EdgeFault>
     ensures { outcome edge_number result ≡ edge_fault (T.lists table.now) edge.now }
 {
-    let mut process = Process::BLANK;
-    table.process(usize::from(edge.process), &mut process);
+    let process = process_or_blank(table, usize::from(edge.process));
     let signal = table
         .signal(usize::from(edge.first))
         .unwrap_or(Signal::ABSENT);
@@ -57,14 +57,11 @@ fn is_unfit(edge: &Edge, signal: Signal) -> bool
     ensures { result ≡ unfit_for signal edge.now.process (kind_of edge.now.kind) }
 {
     match edge.does() {
-        Kind::Input => match signal.is() {
-            Class::Internal | Class::Inbound => signal.destination != edge.process,
-            _ => true,
-        },
-        Kind::Output => match signal.is() {
-            Class::Internal | Class::Outbound => false,
-            _ => true,
-        },
+        Kind::Input => {
+            !matches!(signal.is(), Class::Internal | Class::Inbound)
+                || signal.destination != edge.process
+        }
+        Kind::Output => !matches!(signal.is(), Class::Internal | Class::Outbound),
         _ => false,
     }
 }
@@ -109,7 +106,7 @@ fn has_bad_value(edge: &Edge) -> bool
 fn is_untrue<T: Table>(table: &T, edge: &Edge, variables: u8) -> bool
     ensures { result ≡ untrue_in variables (T.lists table.now).terms edge.now }
 {
-    if edge.mode == 1 && !is_sound(table, edge.guard, variables) {
+    if edge.guarded() == Mode::Expression && !is_sound(table, edge.guard, variables) {
         return true;
     }
     edge.value.count != 0 && !is_sound(table, edge.value, variables)

@@ -7,12 +7,14 @@ ghost use Rattle.table.specs.Examination.{answer_at, edge_refused, edges_refused
 ghost use Rattle.refusal.specs.Refusals.{outcome, table_refusal};
 
 use crate::bounds::check_limits;
+use crate::first::first_fault;
 use crate::location::check_locations;
 use refusal::fault::{BadEdge, TableFault};
 use table::questions::Table;
 
 mod bounds;
 pub mod edge;
+pub mod first;
 mod flags;
 mod location;
 
@@ -28,20 +30,14 @@ pub fn examine<T: Table>(table: &T) -> Result<(), TableFault>
 fn check_edge<T: Table>(table: &T, k: usize) -> Result<(), TableFault>
     ensures { outcome table_refusal result ≡ answer_at (edge_refused (T.lists table.now)) k (slice_get (T.lists table.now).edges k) }
 {
-    let Some(e) = table.edge(k) else {
+    let Some(edge) = table.edge(k) else {
         return Ok(());
     };
-    match edge::check(table, &e) {
-        Ok(()) => Ok(()),
-        Err(fault) => Err(TableFault::Edge(BadEdge { edge: k, fault })),
-    }
+    edge::check(table, &edge).map_err(|fault| TableFault::Edge(BadEdge { edge: k, fault }))
 }
 
 fn check_edges<T: Table>(table: &T) -> Result<(), TableFault>
     ensures { outcome table_refusal result ≡ edges_refused (T.lists table.now) }
 {
-    for k in 0..table.edge_count() {
-        check_edge(table, k)?;
-    }
-    Ok(())
+    first_fault(table.edge_count(), |k| check_edge(table, k))
 }

@@ -1,26 +1,49 @@
-use Rattle.table.specs.Examination.{locations_refused}
-use Rattle.examination.proofs.Placed.{mixed-found, stuck-found}
+use Rattle.std.proofs.Common.{Bool, not, ◌&&◌, arith, rules}
+use Rattle.table.specs.Examination.{acts, waits, frees, locations_refused}
+use Rattle.examination.specs.Locations.{has_at}
+use Rattle.examination.proofs.Placed.{found-alike}
 use Rattle.examination.proofs.location.check_locations.Goals as goal
 
 pub returns-in-Some : goal.returns-in-Some
 unfolding locations_refused
 returns-in-Some g c =
     let T = g.T.Table.lists c.args.table.now in
-    let m = mixed-found T c.requires c.leaving-acting.result.flags c.leaving-waiting.result.flags c.leaving-acting.ensures c.leaving-waiting.ensures in
-    rw (← m, ← c.in-Some.ensures)
+    let a = c.leaving-acting.result.flags in
+    let b = c.leaving-waiting.result.flags in
+    let ra = c.leaving-acting.ensures acts (λ e r k. search rules) in
+    let rb = c.leaving-waiting.ensures waits (λ e r k. search rules) in
+    let m = found-alike T c.requires a b acts waits ra rb (λ (x y : Bool). x && y) in
+    let n = c.find_location-mixed.ensures (λ p l. has_at a p l && has_at b p l) (λ s r k. search rules) in
+    rw (← m, ← n, c.in-Some.is)
 
-pub returns-in-Some-find_location : goal.returns-in-Some-find_location
+pub returns-in-Some-stuck : goal.returns-in-Some-stuck
 unfolding locations_refused
-returns-in-Some-find_location g c =
+returns-in-Some-stuck g c =
     let T = g.T.Table.lists c.args.table.now in
-    let m = mixed-found T c.requires c.leaving-acting.result.flags c.leaving-waiting.result.flags c.leaving-acting.ensures c.leaving-waiting.ensures in
-    let s = stuck-found T c.requires c.leaving-acting.result.flags c.leaving-free.result.flags c.leaving-acting.ensures c.leaving-free.ensures in
-    rw (← m, ← c.in_default.ensures, ← s, ← c.in-Some-find_location.ensures)
+    let a = c.leaving-acting.result.flags in
+    let b = c.leaving-waiting.result.flags in
+    let d = c.leaving-free.result.flags in
+    let ra = c.leaving-acting.ensures acts (λ e r k. search rules) in
+    let rb = c.leaving-waiting.ensures waits (λ e r k. search rules) in
+    let rd = c.leaving-free.ensures frees (λ e r k. search rules) in
+    let m = found-alike T c.requires a b acts waits ra rb (λ (x y : Bool). x && y) in
+    let s = found-alike T c.requires a d acts frees ra rd (λ (x y : Bool). x && not y) in
+    let n = c.find_location-mixed.ensures (λ p l. has_at a p l && has_at b p l) (λ s r k. search rules) in
+    let o = c.find_location-stuck.ensures (λ p l. has_at a p l && not (has_at d p l)) (λ s r k. grind arith) in
+    rw (← m, ← n, c.in_default.is, ← s, ← o, c.in-Some-stuck.is)
 
 pub returns : goal.returns
 unfolding locations_refused
 returns g c =
     let T = g.T.Table.lists c.args.table.now in
-    let m = mixed-found T c.requires c.leaving-acting.result.flags c.leaving-waiting.result.flags c.leaving-acting.ensures c.leaving-waiting.ensures in
-    let s = stuck-found T c.requires c.leaving-acting.result.flags c.leaving-free.result.flags c.leaving-acting.ensures c.leaving-free.ensures in
-    rw (← m, ← c.in_default.ensures, ← s, ← c.in_default-find_location.ensures)
+    let a = c.leaving-acting.result.flags in
+    let b = c.leaving-waiting.result.flags in
+    let d = c.leaving-free.result.flags in
+    let ra = c.leaving-acting.ensures acts (λ e r k. search rules) in
+    let rb = c.leaving-waiting.ensures waits (λ e r k. search rules) in
+    let rd = c.leaving-free.ensures frees (λ e r k. search rules) in
+    let m = found-alike T c.requires a b acts waits ra rb (λ (x y : Bool). x && y) in
+    let s = found-alike T c.requires a d acts frees ra rd (λ (x y : Bool). x && not y) in
+    let n = c.find_location-mixed.ensures (λ p l. has_at a p l && has_at b p l) (λ s r k. search rules) in
+    let o = c.find_location-stuck.ensures (λ p l. has_at a p l && not (has_at d p l)) (λ s r k. grind arith) in
+    rw (← m, ← n, c.in_default.is, ← s, ← o, c.in_default-stuck.is)

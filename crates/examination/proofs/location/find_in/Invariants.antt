@@ -1,9 +1,11 @@
-use Rattle.std.proofs.Common.{◌≡◌, ◌-◌}
+use Rattle.std.proofs.Common.{◌≡◌, ℕ, ◌-◌, Bool}
 use Rattle.table.specs.Examination.{first_from}
-use Rattle.examination.specs.Locations.{flagged}
+use Rattle.table.specs.declared.site.Site.{Site}
 use Rattle.examination.proofs.location.find_in.Given as goal
 
 -- what is left decides
-abbrev pub invariant-loop-l : goal.invariant-loop-l
-invariant-loop-l l =
-    let h = flagged l.one.flags l.other.flags l.wanted l.p in first_from h l.l (l.l-end - l.l) ≡ first_from h 0 l.l-end
+abbrev pub invariant-loop-location : goal.invariant-loop-location
+invariant-loop-location g l =
+    goal.H-IsAlwaysCallable g l.test
+    × ((h : ℕ → ℕ → Bool) → ((s : Site) (b : Bool) → goal.H-post g l.test s b → b ≡ h s.process s.location)
+    → first_from (h l.process) l.location (l.location-end - l.location) ≡ first_from (h l.process) 0 l.location-end)

@@ -1,25 +1,30 @@
-use Rattle.std.proofs.Common.{◌<◌, ◌≤◌, length, sym, ◌∙◌, arith}
-use Rattle.table.specs.Examination.{location_in}
-use Rattle.examination.specs.Locations.{flagged}
-use Rattle.examination.proofs.Firsts.{first_found, first-passed, first-end}
+use Rattle.std.proofs.Common.{ℕ, ◌<◌, ◌≤◌, length, sym, refl, ◌∙◌, arith}
+use Rattle.std.specs.List.{slice_get}
+use Rattle.table.specs.Examination.{answer_at, location_in}
+use Rattle.examination.specs.Locations.{pair}
+use Rattle.examination.proofs.Firsts.{told-at, told-end, told-hit, told-miss}
 use Rattle.examination.proofs.location.find_location.Goals as goal
 
 pub returns-in-Some : goal.returns-in-Some
-returns-in-Some g c =
+returns-in-Some g c h told =
     let ps = (g.T.Table.lists c.args.table.now).processes in
-    let f = location_in (flagged c.args.one.now.flags c.args.other.now.flags c.args.wanted) in
-    sym (first_found f ps c.loop-p.p c.in-Some.at (sym c.in-Some.ensures)) ∙ c.loop-p.invariant
+    let f = λ (i : ℕ). answer_at (location_in h) i (slice_get ps i) in
+    let lt : c.loop-p.p < length ps = omega arith in
+    sym (told-hit f c.loop-p.p (length ps) (pair c.in-Some.site) lt (sym (c.in-Some.ensures h (λ s b k. told s b k.1)))) ∙ c.loop-p.invariant.1 h told ∙ told-at (location_in h) ps (length ps) refl
 
 pub loop-p-preserved : goal.loop-p-preserved
-loop-p-preserved g c =
-    let ps = (g.T.Table.lists c.args.table.now).processes in
-    let f = location_in (flagged c.args.one.now.flags c.args.other.now.flags c.args.wanted) in
-    let lt : c.loop-p.p < length ps = omega arith in
-    sym (first-passed f ps c.loop-p.p lt (sym c.in-None.ensures)) ∙ c.loop-p.invariant
+loop-p-preserved g c = (
+  c.loop-p.invariant.0,
+  λ h told.
+      let ps = (g.T.Table.lists c.args.table.now).processes in
+      let f = λ (i : ℕ). answer_at (location_in h) i (slice_get ps i) in
+      let lt : c.loop-p.p < length ps = omega arith in
+      sym (told-miss f c.loop-p.p (length ps) lt (sym (c.in_default.ensures h (λ s b k. told s b k.1)))) ∙ c.loop-p.invariant.1 h told,
+)
 
 pub returns : goal.returns
-returns g c =
+returns g c h told =
     let ps = (g.T.Table.lists c.args.table.now).processes in
-    let f = location_in (flagged c.args.one.now.flags c.args.other.now.flags c.args.wanted) in
+    let f = λ (i : ℕ). answer_at (location_in h) i (slice_get ps i) in
     let le : length ps ≤ c.loop-p.p = omega arith in
-    sym (first-end f ps c.loop-p.p le) ∙ c.loop-p.invariant
+    sym (told-end f c.loop-p.p (length ps) le) ∙ c.loop-p.invariant.1 h told ∙ told-at (location_in h) ps (length ps) refl
