@@ -3,12 +3,11 @@ use Rattle.std.proofs.Common.{◌≡◌, ℕ, suc, ◌+◌, ◌-◌, ◌<◌, �
 use Rattle.std.specs.List.{slice_get}
 use Rattle.std.specs.Option.{option_map}
 use Rattle.std.proofs.lemmas.Bool.Decides.{nat_tests}
-use Rattle.table.specs.Expressions.{depth_after, fitting, formed, names, operands, part, sound, suits}
+use Rattle.table.specs.Expressions.{depth_after, fitting, formed, names, operands, suits}
 use Rattle.table.specs.Records.{operation_of}
-use Rattle.evaluation.specs.Values.{same, one, two, combined, operated, performed, applied, single, evaluated, value_of}
+use Rattle.evaluation.specs.Values.{same, one, two, combined, operated, performed, applied, single, evaluated}
 use Rattle.table.specs.declared.record.Operation.{Operation}
 use Rattle.table.specs.declared.record.Operation.TheVariants.{Number, Variable, Sum, Difference, Equal, Less, Both, Not, Unknown}
-use Rattle.table.specs.declared.record.Span.{Span}
 use Rattle.table.specs.declared.record.Term.{Term}
 use Rattle.table.proofs.Forms.{depth-bound}
 use Rattle.table.proofs.Windows.{window, window-end, window-none, window-some}
@@ -91,20 +90,10 @@ unfolding evaluated formed
 applied-formed vars t ts s None e rest = let d = sym (applied-sized vars t s) ∙ ap (option_map length) e in rw (e, d)
 applied-formed vars t ts s (Some s') e rest = let d = sym (applied-sized vars t s) ∙ ap (option_map length) e in rw (e, d) (rest s')
 
-evaluated-formed : (vars : List ℤ) (ts : List Term) (s : List ℤ) → is_some (evaluated vars ts s) ≡ formed (length vars) ts (length s)
+pub evaluated_formed : (vars : List ℤ) (ts : List Term) (s : List ℤ) → is_some (evaluated vars ts s) ≡ formed (length vars) ts (length s)
 unfolding evaluated
-evaluated-formed vars [] s = single-formed s (length vars)
-evaluated-formed vars (t ∷ ts) s = applied-formed vars t ts s (applied vars t s) refl (evaluated-formed vars ts)
-
-within : (a b f : Bool) (o : Option ℤ) → is_some o ≡ f → is_some (cond (a && b) o None) ≡ (a && (b && f))
-within true true f o e = e
-within true false f o e = refl
-within false b f o e = refl
-
-pub value-sound : (vars : List ℤ) (ts : List Term) (s : Span) → is_some (value_of vars ts s) ≡ sound (length vars) ts s
-unfolding value_of sound
-value-sound vars ts s =
-    within (leb 1 s.count && leb s.count 16) (leb (s.start + s.count) (length ts)) (formed (length vars) (part ts s) 0) (evaluated vars (part ts s) []) (evaluated-formed vars (part ts s) [])
+evaluated_formed vars [] s = single-formed s (length vars)
+evaluated_formed vars (t ∷ ts) s = applied-formed vars t ts s (applied vars t s) refl (evaluated_formed vars ts)
 
 -- the steps of the loop
 evaluated-stops : (vars : List ℤ) (t : Term) (ts : List Term) (s : List ℤ) → applied vars t s ≡ None → evaluated vars (t ∷ ts) s ≡ None

@@ -1,29 +1,25 @@
--- What a stack shows after each change of its items and depth.
-use Rattle.std.proofs.Common.{◌≡◌, ℕ, ◌+◌, ◌<◌, ◌≤◌, List, [], ◌∷◌, reverse, length, get_or, take, set, ℤ, Some, None, refl, ap, ◌∙◌}
-use Rattle.std.proofs.lemmas.List.{take_more, take_more_set, reverse-append, length-reverse, length-take-le}
-use Rattle.evaluation.specs.Values.{shown, single}
+-- A stack is kept with its top last, and read with its top first.
+use Rattle.std.proofs.Common.{◌≡◌, ◌≤◌, List, [], ◌∷◌, reverse, length, ℤ, Some, None, sym, refl, arith}
+use Rattle.std.proofs.lemmas.List.{length-reverse}
+use Rattle.evaluation.specs.Values.{applied, single}
+use Rattle.table.specs.declared.record.Term.{Term}
+use Rattle.evaluation.proofs.Evaluations.{applied-bound}
 
-module _ (xs : List ℤ) where
-  pub shown-none : shown xs 0 ≡ []
-  unfolding shown
-  shown-none = refl
-
-  pub shown-push : (d : ℕ) (x : ℤ) → d < length xs → shown (set xs d x) (d + 1) ≡ x ∷ shown xs d
-  unfolding shown
-  shown-push d x h = ap reverse (take_more_set xs d x h) ∙ reverse-append (take d xs) (x ∷ [])
-
-  pub shown-more : (d : ℕ) (e : ℤ) → d < length xs → shown xs (d + 1) ≡ get_or xs d e ∷ shown xs d
-  unfolding shown
-  shown-more d e h = ap reverse (take_more xs d e h) ∙ reverse-append (take d xs) (get_or xs d e ∷ [])
-
-  pub length-shown : (d : ℕ) → d ≤ length xs → length (shown xs d) ≡ d
-  unfolding shown
-  length-shown d h = length-reverse (take d xs) ∙ length-take-le d xs h
-
-  pub single-shown : (e : ℤ) → 0 < length xs → single (shown xs 1) ≡ Some (get_or xs 0 e)
-  single-shown e h = ap single (shown-more 0 e h ∙ ap (λ s. get_or xs 0 e ∷ s) shown-none)
-
-pub single-none : (s : List ℤ) → (length s ≡ 1 → ⊥) → single s ≡ None
+single-none : (xs : List ℤ) → (length xs ≡ 1 → ⊥) → single xs ≡ None
 single-none [] ne = refl
 single-none (a ∷ []) ne = absurd (ne refl)
-single-none (a ∷ b ∷ s) ne = refl
+single-none (a ∷ b ∷ xs) ne = refl
+
+-- there is just one value or not, whichever end is the top
+pub single_reverse : (xs : List ℤ) → single (reverse xs) ≡ single xs
+single_reverse [] = refl
+single_reverse (a ∷ []) = refl
+single_reverse (a ∷ b ∷ xs) = let n : length (reverse (a ∷ b ∷ xs)) ≡ length (a ∷ b ∷ xs) = length-reverse (a ∷ b ∷ xs) in single-none (reverse (a ∷ b ∷ xs)) (λ e. absurd (omega arith))
+
+-- the term's operands were taken, so there are no more values than before
+pub taken : (vars : List ℤ) (t : Term) (xs ys : List ℤ) (v : ℤ) → Some (v ∷ reverse ys) ≡ applied vars t (reverse xs) → length ys ≤ length xs
+taken vars t xs ys v h =
+    let a = applied-bound vars t (reverse xs) (v ∷ reverse ys) (sym h) in
+    let l = length-reverse xs in
+    let m = length-reverse ys in
+    omega arith

@@ -15,8 +15,7 @@
 --   value_of vars ts s    the value of the expression in the part s of the terms ts: 1 to 16 terms, all within ts
 --   nonzero o             there is a value, and it is not 0
 --   holds vars ts s       the guard in the part s of the terms ts is true; one that is not well formed has no value, so it is false
---   shown items depth     the stack that lies in the first `depth` of the items, the last of them on top
-use Rattle.std.specs.Prelude.{ℕ, ◌+◌, Bool, true, false, cond, not, ◌&&◌, List, [], ◌∷◌, reverse, length, take, ℤ, pos, negsuc, ◌+ℤ◌, ◌-ℤ◌, Some, None, Option, ◌==◌, int_lt, nat_le, slice_index_or}
+use Rattle.std.specs.Prelude.{◌+◌, Bool, true, false, cond, not, ◌&&◌, List, [], ◌∷◌, length, ℤ, pos, negsuc, ◌+ℤ◌, ◌-ℤ◌, Some, None, Option, ◌==◌, int_lt, nat_le, slice_index_or}
 use Rattle.std.specs.Int.{int_wrap, w16}
 use Rattle.table.specs.Expressions.{part, fitting}
 use Rattle.table.specs.Records.{operation_of}
@@ -107,6 +106,3 @@ nonzero (Some z) = not (same z (pos 0))
 
 abbrev pub holds : List ℤ → List Term → Span → Bool
 holds vars ts s = nonzero (value_of vars ts s)
-
-unfoldable pub shown : List ℤ → ℕ → List ℤ
-shown items depth = reverse (take depth items)

@@ -1,7 +1,6 @@
 //! The value of an expression, and whether a guard is true.
 #![tactic(auto)]
 
-mod stack;
 mod value;
 
 pub use value::{evaluate, is_true};

@@ -1,24 +1,25 @@
 //! The value of a postfix expression, and whether a guard is true.
-ghost use Rattle.std.specs.Prelude.{◌≡◌, ◌≤◌, [], ◌∷◌, length, pos, is_some, if◌then◌else◌, Some, None};
+ghost use Rattle.std.specs.Prelude.{◌≡◌, ◌≤◌, [], ◌∷◌, length, reverse, pos, is_some, if◌then◌else◌, Some, None};
 ghost use Rattle.std.specs.Option.{option_map};
 ghost use Rattle.table.specs.Expressions.{part, suits, sound};
-ghost use Rattle.evaluation.specs.Values.{truth, same, combined, operated, numbered, applied, evaluated, value_of, holds, shown};
+ghost use Rattle.evaluation.specs.Values.{single, same, combined, operated, numbered, applied, evaluated, value_of, holds};
 
-use crate::stack::Stack;
-use table::limits;
+use arrayvec::ArrayVec;
+use table::expression::is_there;
 use table::questions::Table;
 use table::record::{Operation, Span, Term};
 
+/// The values that an expression has given so far and not yet taken, the top last. It has at most 16 terms, so it never
+/// has more values.
+type Stack = ArrayVec<i16, 16>;
+
 /// The value of the expression; none where it is not well formed.
+#[tactic(auto, using(crate::proofs::Evaluations::evaluated_formed), unfolding(crate::specs::Values::value_of, table::specs::Expressions::sound))]
 pub fn evaluate<T: Table>(table: &T, span: Span, variables: &[i16]) -> Option<i16>
     ensures value { result ≡ value_of variables.now (T.lists table.now).terms span }
     ensures test { is_some result ≡ sound (length variables.now) (T.lists table.now).terms span }
 {
-    if span.count == 0 || span.count > limits::EXPRESSION {
-        return None;
-    }
-    let end = usize::from(span.start) + usize::from(span.count);
-    if end > table.term_count() {
+    if !is_there(table, span) {
         return None;
     }
     run(table, span, variables)
@@ -28,10 +29,7 @@ pub fn evaluate<T: Table>(table: &T, span: Span, variables: &[i16]) -> Option<i1
 pub fn is_true<T: Table>(table: &T, guard: Span, variables: &[i16]) -> bool
     ensures { result ≡ holds variables.now (T.lists table.now).terms guard }
 {
-    match evaluate(table, guard, variables) {
-        None => false,
-        Some(value) => value != 0,
-    }
+    evaluate(table, guard, variables).is_some_and(|value| value != 0)
 }
 
 /// The one value that the terms leave.
@@ -40,23 +38,31 @@ fn run<T: Table>(table: &T, span: Span, variables: &[i16]) -> Option<i16>
     ensures { result ≡ evaluated variables.now (part (T.lists table.now).terms span) [] }
 {
     let start = usize::from(span.start);
-    let mut stack = Stack::empty();
+    let mut stack = Stack::new();
     for i in start..start + usize::from(span.count) {
-        match table.term(i) {
-            None => break,
-            Some(term) => match apply(term, variables, &mut stack) {
-                None => return None,
-                Some(value) => stack.push(value),
-            },
-        }
+        let Some(term) = table.term(i) else {
+            break;
+        };
+        let value = apply(term, variables, &mut stack)?;
+        stack.push(value);
     }
-    stack.only()
+    only(&stack)
+}
+
+/// The value, where there is just one.
+fn only(values: &[i16]) -> Option<i16>
+    ensures { result ≡ single values.now }
+{
+    match values {
+        [value] => Some(*value),
+        _ => None,
+    }
 }
 
 /// Takes the term's operands off the stack and answers the value that it gives, which is not yet put on; none where the
 /// term is unknown, its argument does not fit or operands lack.
 fn apply(term: Term, variables: &[i16], stack: &mut Stack) -> Option<i16>
-    ensures { option_map (λ v. v ∷ shown stack.new.items stack.new.depth) result ≡ applied variables.now term (shown stack.old.items stack.old.depth) }
+    ensures { option_map (λ v. v ∷ reverse stack.new.items) result ≡ applied variables.now term (reverse stack.old.items) }
 {
     match term.does() {
         Operation::Number => Some(term.argument),
@@ -69,16 +75,13 @@ fn apply(term: Term, variables: &[i16], stack: &mut Stack) -> Option<i16>
 fn numbered(variables: &[i16], number: i16) -> Option<i16>
     ensures { result ≡ (if suits (length variables.now) Operation.Variable number then Some (numbered variables.now number) else None) }
 {
-    if 0 <= number && (number as usize) < variables.len() {
-        Some(variables[number as usize])
-    } else {
-        None
-    }
+    let i = usize::try_from(number).ok()?;
+    variables.get(i).copied()
 }
 
 /// The same as `apply`, of an operation that takes operands and so has argument 0.
 fn operate(operation: Operation, argument: i16, stack: &mut Stack) -> Option<i16>
-    ensures { option_map (λ v. v ∷ shown stack.new.items stack.new.depth) result ≡ (if same argument (pos 0) then operated operation (shown stack.old.items stack.old.depth) else None) }
+    ensures { option_map (λ v. v ∷ reverse stack.new.items) result ≡ (if same argument (pos 0) then operated operation (reverse stack.old.items) else None) }
 {
     if argument != 0 {
         return None;
@@ -87,7 +90,7 @@ fn operate(operation: Operation, argument: i16, stack: &mut Stack) -> Option<i16
         Operation::Number | Operation::Variable | Operation::Unknown => None,
         Operation::Not => {
             let a = stack.pop()?;
-            Some(truth(a == 0))
+            Some(i16::from(a == 0))
         }
         _ => {
             let b = stack.pop()?;
@@ -104,15 +107,9 @@ fn combine(operation: Operation, a: i16, b: i16) -> i16
     match operation {
         Operation::Sum => a.wrapping_add(b),
         Operation::Difference => a.wrapping_sub(b),
-        Operation::Equal => truth(a == b),
-        Operation::Less => truth(a < b),
-        Operation::Both => truth(a != 0 && b != 0),
+        Operation::Equal => i16::from(a == b),
+        Operation::Less => i16::from(a < b),
+        Operation::Both => i16::from(a != 0 && b != 0),
         _ => 0,
     }
-}
-
-fn truth(b: bool) -> i16
-    ensures { result ≡ truth b }
-{
-    if b { 1 } else { 0 }
 }
