@@ -23,9 +23,10 @@ get_or-replicated d zero i = refl
 get_or-replicated d (suc n) zero = refl
 get_or-replicated d (suc n) (suc i) = get_or-replicated d n i
 
-pub blank-spots : (n p l : ℕ) → spot_at (replicate n nowhere) p l ≡ nowhere
+pub blank-spots : (n p l : ℕ) (s : Spot) → s ≡ nowhere → spot_at (replicate n s) p l ≡ nowhere
 unfolding spot_at
-blank-spots n p l = rw (get_or-replicated nowhere n (16 * p + l)) (either (ltb p 8 && ltb l 16))
+blank-spots n p l s h =
+    rw h (rw (get_or-replicated nowhere n (16 * p + l)) (either (ltb p 8 && ltb l 16)))
   where
     either : (b : Bool) → cond b nowhere nowhere ≡ nowhere
     either true = refl

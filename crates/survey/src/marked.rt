@@ -4,7 +4,8 @@ ghost use Rattle.marks.specs.Rules.{marked};
 ghost use Rattle.marks.specs.Words.{marking};
 ghost use Rattle.survey.specs.Surveys.{hits};
 
-use marks::marks::Marks;
+use marks::marks::{Marks, Sort};
+use table::expression::any_term;
 use table::questions::Table;
 use table::record::{Edge, Operation, Span, Term};
 
@@ -12,29 +13,14 @@ use table::record::{Edge, Operation, Span, Term};
 fn is_hit(marks: &Marks, edge: &Edge, term: Term) -> bool
     ensures { result ≡ hits (marking marks.now) edge.now term }
 {
-    match term.does() {
-        Operation::Variable => {
-            let (process, location) = (usize::from(edge.process), usize::from(edge.from));
-            0 <= term.argument && marks.variable(process, location, term.argument as usize)
-        }
-        _ => false,
-    }
+    term.does() == Operation::Variable
+        && 0 <= term.argument
+        && marks.has(Sort::Variable, edge.start(), term.argument as usize)
 }
 
 /// Whether the edge's expression is marked.
 pub fn is_marked<T: Table>(table: &T, marks: &Marks, edge: &Edge, span: Span) -> bool
     ensures { result ≡ marked (T.lists table.now) (marking marks.now) edge.now span }
 {
-    let start = usize::from(span.start);
-    for i in start..start + usize::from(span.count) {
-        match table.term(i) {
-            None => return false,
-            Some(term) => {
-                if is_hit(marks, edge, term) {
-                    return true;
-                }
-            }
-        }
-    }
-    false
+    any_term(table, span, |term| is_hit(marks, edge, term))
 }

@@ -1,8 +1,8 @@
 //! What the edges that leave a location say of it.
 ghost use Rattle.std.specs.Prelude.{◌≡◌, length};
 
-/// A location as its edges make it.
-#[derive(Clone, Copy)]
+/// A location as its edges make it: at first without any.
+#[derive(Clone, Copy, Debug, PartialEq, Eq, Default)]
 pub struct Spot {
     /// An acting edge leaves it.
     pub acting: bool,
