@@ -1,5 +1,6 @@
 -- An expression is marked just where one of its terms reads a marked variable.
-use Rattle.std.proofs.Common.{◌≡◌, ℕ, ◌<◌, Bool, true, false, ◌&&◌, eqb, ltb, ℤ, pos, negsuc, sym, refl, ap, ◌∙◌, arith}
+use Rattle.std.proofs.Common.{◌≡◌, ℕ, ◌<◌, true, false, ◌&&◌, eqb, ltb, ℤ, pos, negsuc, refl, ap, ◌∙◌, arith}
+use Rattle.std.specs.Cmp.{both_ways as both_imply}
 use Rattle.std.proofs.lemmas.Bool.{both_ways, and_parts, and_from, eqb-true, eq-eqb, ltb-true}
 use Rattle.marks.specs.Rules.{indices, marked}
 use Rattle.marks.specs.Words.{bit, word_at, marking}
@@ -11,11 +12,6 @@ use Rattle.table.specs.Lists.{Lists}
 use Rattle.table.specs.declared.record.Edge.{Edge}
 use Rattle.table.specs.declared.record.Span.{Span}
 use Rattle.table.specs.declared.record.Term.{Term}
-
-same_answer : (a b : Bool) → (a ≡ true → b ≡ true) → (b ≡ true → a ≡ true) → a ≡ b
-same_answer true b f g = sym (f refl)
-same_answer false true f g = g refl
-same_answer false false f g = refl
 
 module _ (m : Marks) (e : Edge) where
   read-hit : (v : ℕ) (t : Term) → (marking m).variable e.process e.from v ≡ true → reads v t ≡ true → hits (marking m) e t ≡ true
@@ -43,7 +39,7 @@ module _ (m : Marks) (e : Edge) where
   pub marked-hits : (T : Lists) (s : Span) → marked T (marking m) e s ≡ any (hits (marking m) e) (part T.terms s)
   unfolding marked indices
   marked-hits T s =
-      same_answer (any (λ v. (marking m).variable e.process e.from v && mentions (part T.terms s) v) indices) (any (hits (marking m) e) (part T.terms s))
+      both_imply (any (λ v. (marking m).variable e.process e.from v && mentions (part T.terms s) v) indices) (any (hits (marking m) e) (part T.terms s))
       (λ h.
       let a = in-any (λ v. (marking m).variable e.process e.from v && mentions (part T.terms s) v) indices h in
       let b = and_parts ((marking m).variable e.process e.from a.0) (mentions (part T.terms s) a.0) a.1.1 in

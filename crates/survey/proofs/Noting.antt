@@ -1,6 +1,7 @@
 -- How a survey follows a loop over the edges.
 use Rattle.std.proofs.Common.{◌≡◌, ℕ, zero, suc, ◌+◌, ◌*◌, ◌^◌, ◌<◌, ◌≤◌, Bool, true, false, cond, ◌&&◌, ◌||◌, eqb, ltb, ◌⊎◌, List, [], length, get_or, take, set, replicate, Some, None, sym, refl, ap, ◌∙◌, subst, inl, inr, arith}
 use Rattle.std.proofs.lemmas.List.{get_or-set_same, get_or-set_other}
+use Rattle.std.proofs.Math.Bool.{or-false, or-true}
 use Rattle.std.proofs.lemmas.Bool.{lt-ltb, le-ltb, ltb-true, cases_eq, cases_lt, eq-eqb, ne_eqb, and_from, and_left, and_right, cond-true, cond-false}
 use Rattle.std.proofs.lemmas.Bool.Decides.{nat_tests}
 use Rattle.std.specs.List.{slice_get}
@@ -90,17 +91,13 @@ module _ (f : Edge → Bool) (g : Spot → Bool) (b : Bool) (e : Edge) (grows : 
   fact-noted : (ss : List Spot) (p l : ℕ) → length ss ≡ 128 → p < 8 → l < 16 → g (spot_at (noted_spots b e ss) p l) ≡ (g (spot_at ss p l) || leaves p l f e)
   fact-noted ss p l n hp hl = by (cases_eq e.process p) (cases_eq e.from l)
     where
-      or-false : (x : Bool) → x ≡ (x || false)
-      or-false true = refl
-      or-false false = refl
-
       by : (e.process ≡ p) ⊎ (e.process ≡ p → ⊥) → (e.from ≡ l) ⊎ (e.from ≡ l → ⊥) → g (spot_at (noted_spots b e ss) p l) ≡ (g (spot_at ss p l) || leaves p l f e)
       by (inl q) (inl w) =
           ap g (noted_here b e ss p l n hp hl q w) ∙ grows (spot_at ss p l) ∙ ap (λ x. g (spot_at ss p l) || (x && f e)) (sym (and_from (eqb e.process p) (eqb e.from l) (eq-eqb e.process p q) (eq-eqb e.from l w)))
       by (inl q) (inr w) =
-          ap g (noted-there b e ss p l hp hl (λ _ z. w z)) ∙ or-false (g (spot_at ss p l)) ∙ ap (λ x. g (spot_at ss p l) || (x && f e)) (sym (and_right (eqb e.process p) (eqb e.from l) (ne_eqb e.from l w)))
+          ap g (noted-there b e ss p l hp hl (λ _ z. w z)) ∙ sym (or-false (g (spot_at ss p l))) ∙ ap (λ x. g (spot_at ss p l) || (x && f e)) (sym (and_right (eqb e.process p) (eqb e.from l) (ne_eqb e.from l w)))
       by (inr q) w =
-          ap g (noted-there b e ss p l hp hl (λ z _. q z)) ∙ or-false (g (spot_at ss p l)) ∙ ap (λ x. g (spot_at ss p l) || (x && f e)) (sym (and_left (eqb e.process p) (eqb e.from l) (ne_eqb e.process p q)))
+          ap g (noted-there b e ss p l hp hl (λ z _. q z)) ∙ sym (or-false (g (spot_at ss p l))) ∙ ap (λ x. g (spot_at ss p l) || (x && f e)) (sym (and_left (eqb e.process p) (eqb e.from l) (ne_eqb e.process p q)))
 
   fact-more : (ss : List Spot) (es : List Edge) (k p l : ℕ) → length ss ≡ 128 → p < 8 → l < 16 → slice_get es k ≡ Some e → g (spot_at ss p l) ≡ any (leaves p l f) (take k es) → g (spot_at (noted_spots b e ss) p l) ≡ any (leaves p l f) (take (k + 1) es)
   fact-more ss es k p l n hp hl h so =
@@ -125,30 +122,22 @@ chaos-more T e cs es k p n hp h so =
     ∙ sym (any_push (λ x. eqb x.process p && invites T x) (take k es) e)
     ∙ sym (ap (any (λ x. eqb x.process p && invites T x)) (take-some es k e h))
   where
-    or-false : (x : Bool) → x ≡ (x || false)
-    or-false true = refl
-    or-false false = refl
-
-    or-true : (x : Bool) → true ≡ (x || true)
-    or-true true = refl
-    or-true false = refl
-
     by : (i : Bool) → (e.process ≡ p) ⊎ (e.process ≡ p → ⊥) → (ltb p 8 && get_or (cond (i && ltb e.process 8) (set cs e.process true) cs) p false) ≡ ((ltb p 8 && get_or cs p false) || (eqb e.process p && i))
     by true (inl q) =
         rw (lt-ltb p 8 hp)
         (ap (λ x. get_or (cond x (set cs e.process true) cs) p false) (lt-ltb e.process 8 (omega arith))
         ∙ ap (λ x. get_or (set cs x true) p false) q
         ∙ get_or-set_same cs p true false (omega arith)
-        ∙ or-true (get_or cs p false)
+        ∙ sym (or-true (get_or cs p false))
         ∙ ap (λ x. get_or cs p false || (x && true)) (sym (eq-eqb e.process p q)))
     by true (inr q) =
         rw (lt-ltb p 8 hp)
-        (other (ltb e.process 8) ∙ or-false (get_or cs p false) ∙ ap (λ x. get_or cs p false || (x && true)) (sym (ne_eqb e.process p q)))
+        (other (ltb e.process 8) ∙ sym (or-false (get_or cs p false)) ∙ ap (λ x. get_or cs p false || (x && true)) (sym (ne_eqb e.process p q)))
       where
         other : (x : Bool) → get_or (cond x (set cs e.process true) cs) p false ≡ get_or cs p false
         other true = get_or-set_other cs e.process p true false (λ z. q (sym z))
         other false = refl
-    by false q = or-false (ltb p 8 && get_or cs p false) ∙ ap (λ x. (ltb p 8 && get_or cs p false) || x) (sym (and_right (eqb e.process p) false refl))
+    by false q = sym (or-false (ltb p 8 && get_or cs p false)) ∙ ap (λ x. (ltb p 8 && get_or cs p false) || x) (sym (and_right (eqb e.process p) false refl))
 
 pub surveyed-more : (T : Lists) (M : Marking) (es : List Edge) (k : ℕ) (e : Edge) (ss : List Spot) (cs : List Bool) → length ss ≡ 128 → length cs ≡ 8 → slice_get es k ≡ Some e → Surveyed T M (take k es) ss cs → Surveyed T M (take (k + 1) es) (noted_spots (marked_guard T M e) e ss) (noted_chaos (invites T e) e cs)
 surveyed-more T M es k e ss cs n m h s = record {

@@ -1,9 +1,7 @@
-use Rattle.std.proofs.Common.{◌≡◌, ◌+◌, ◌≤◌, length, take, sym, ap, ◌∙◌, subst, arith}
+use Rattle.std.proofs.Common.{◌≤◌, length, sym, subst, arith}
 use Rattle.std.proofs.lemmas.List.{take_all}
 use Rattle.marks.specs.Words.{marking}
-use Rattle.rules.specs.Closing.{invites, marked_guard}
-use Rattle.survey.specs.Surveys.{noted_spots, noted_chaos, Surveyed}
-use Rattle.survey.specs.declared.spots.Survey.{Survey}
+use Rattle.survey.specs.Surveys.{Surveyed}
 use Rattle.survey.proofs.Noting.{surveyed-more, surveyed-none, surveyed-blank}
 use Rattle.survey.proofs.edges.survey.Goals as goal
 use Rattle.survey.proofs.edges.survey.Goals.{in-Some, in_default}
@@ -18,11 +16,8 @@ loop-k-preserved g c =
     let was = c.loop-k.seen in
     elim c.match-edge.branch [
       | in-Some w ↦
-          let e = w.in-Some.edge in
-          let ss : c.match-edge.seen.spots ≡ noted_spots (marked_guard T M e) e was.spots = ap (λ (x : Survey). x.spots) w.seen-is ∙ w.note_chaos.ensures.same ∙ w.note.ensures.spots ∙ ap (λ b. noted_spots b e was.spots) w.has_marked_guard.ensures in
-          let cs : c.match-edge.seen.chaotic ≡ noted_chaos (invites T e) e was.chaotic = ap (λ (x : Survey). x.chaotic) w.seen-is ∙ w.note_chaos.ensures.chaotic ∙ ap (noted_chaos w.is_inviting.result e) w.note.ensures.same ∙ ap (λ b. noted_chaos b e was.chaotic) w.is_inviting.ensures in
-          let more = surveyed-more T M T.edges c.loop-k.k e was.spots was.chaotic was.size was.eight (sym w.in-Some.ensures) c.loop-k.invariant in
-          subst (λ xs. Surveyed T M (take (c.loop-k.k + 1) T.edges) xs c.match-edge.seen.chaotic) (sym ss) (subst (λ xs. Surveyed T M (take (c.loop-k.k + 1) T.edges) (noted_spots (marked_guard T M e) e was.spots) xs) (sym cs) more)
+          let more = surveyed-more T M T.edges c.loop-k.k w.in-Some.edge was.spots was.chaotic was.size was.eight (sym w.in-Some.ensures) c.loop-k.invariant in
+          rw (w.seen-is, w.note_chaos.ensures.same, w.note_chaos.ensures.chaotic, w.note.ensures.spots, w.note.ensures.same, w.has_marked_guard.ensures, w.is_inviting.ensures) more
       | in_default w ↦
           rw w.seen-is (surveyed-none T M T.edges c.loop-k.k was.spots was.chaotic (sym w.in_default.ensures) c.loop-k.invariant)
     ]
