@@ -1,1 +1,1 @@
-mod Holding
+mod Rows

@@ -1,6 +1,7 @@
 -- Rows of added edges.
+--   turn_edge t p l n   the edge that turns timer n at location l of process p as t says
 --   loop_edge x         the edge that the loop x is
---   Holds items n es    the items are the first of the edges es, as many as fit, and n is how many there are in all
+--   edges_of r          the edges of the row r
 --   timer_edges m h ..  what is added for a timer: nothing unless it is marked (m); a timeout unless an edge handles it (h); a rearm
 --   chaos_edges c ..    what is added for a chaos timer, if there is one (c)
 --   at_spot ..          what is added at a location, by its spot
@@ -9,9 +10,12 @@
 --   shape r             the shape of the process r
 --   of_process ..       what is added to a process of a shape
 --   added_by ..         what is added to the processes, at most eight
-use Rattle.std.specs.Prelude.{◌≡◌, ℕ, min, Bool, cond, List, [], ◌∷◌, ◌++◌, map, length, take, slice_index_or}
+use Rattle.std.specs.Prelude.{ℕ, min, Bool, cond, List, [], ◌∷◌, ◌++◌, map, slice_index_or}
 use Rattle.std.specs.List.{range_with_len, flat_map}
 use Rattle.loops.specs.declared.row.Loop.{Loop}
+use Rattle.loops.specs.declared.row.Loops.{Loops}
+use Rattle.loops.specs.declared.row.Turn.{Turn}
+use Rattle.loops.specs.declared.row.Turn.TheVariants.{Timeout, Rearm}
 use Rattle.marks.specs.Rules.{Marking}
 use Rattle.marks.specs.Words.{bit}
 use Rattle.rules.specs.Closing.{rearm, timeout}
@@ -21,12 +25,15 @@ use Rattle.table.specs.Edges.{blank}
 use Rattle.table.specs.Lists.{Proc}
 use Rattle.table.specs.declared.record.Edge.{Edge}
 
-abbrev pub loop_edge : Loop → Edge
-loop_edge x = cond x.rearm (rearm x.process x.location x.timer) (timeout x.process x.location x.timer)
+abbrev pub turn_edge : Turn → ℕ → ℕ → ℕ → Edge
+turn_edge Timeout p l n = timeout p l n
+turn_edge Rearm p l n = rearm p l n
 
-pub record Holds (items : List Loop) (n : ℕ) (es : List Edge) : Type 0 where
-  pub count : n ≡ length es
-  pub edges : map loop_edge (take n items) ≡ take 2048 es
+abbrev pub loop_edge : Loop → Edge
+loop_edge x = turn_edge x.turn x.place.process x.place.location x.timer
+
+abbrev pub edges_of : Loops → List Edge
+edges_of r = map loop_edge r.items.items
 
 abbrev pub timer_edges : Bool → Bool → ℕ → ℕ → ℕ → List Edge
 timer_edges m h p l n = cond m (cond h (rearm p l n ∷ []) (timeout p l n ∷ rearm p l n ∷ [])) []

@@ -2,4 +2,5 @@
 #![tactic(auto)]
 
 pub mod adding;
+mod edge;
 pub mod row;

@@ -1,19 +1,35 @@
 //! A row of added edges.
-ghost use Rattle.std.specs.Prelude.{◌≡◌, length};
 
-/// An added edge: at its location, a rearm of the timer to 1, or a timeout of it.
-#[derive(Clone, Copy)]
-pub struct Loop {
+use arrayvec::ArrayVec;
+
+/// How many may be wanted: at each of 16 locations of 8 processes one for the chaos timer, and two for each of 8 timers.
+pub(crate) const MOST: usize = 2176;
+
+/// A location of a process, by the numbers that an edge has for them.
+#[derive(Clone, Copy, Debug, PartialEq, Eq, Default)]
+pub struct Place {
     pub process: u8,
     pub location: u8,
-    pub timer: u8,
-    pub rearm: bool,
 }
 
-/// The first 2,048 of the loops that were wanted, and how many were.
-#[derive(Clone, Copy)]
+/// What an added edge does with its timer: it times it out, or rearms it to 1.
+#[derive(Clone, Copy, Debug, PartialEq, Eq, Default)]
+pub enum Turn {
+    #[default]
+    Timeout,
+    Rearm,
+}
+
+/// An added edge, which stays at its place.
+#[derive(Clone, Copy, Debug, PartialEq, Eq, Default)]
+pub struct Loop {
+    pub place: Place,
+    pub timer: u8,
+    pub turn: Turn,
+}
+
+/// All the loops that are wanted, be they more than a table may have edges.
+#[derive(Drop)]
 pub struct Loops {
-    pub(crate) items: [Loop; 2048],
-    pub(crate) wanted: usize,
-    ghost size: { length items ≡ 2048 },
+    pub(crate) items: ArrayVec<Loop, MOST>,
 }

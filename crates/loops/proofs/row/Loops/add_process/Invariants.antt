@@ -1,9 +1,11 @@
-use Rattle.std.proofs.Common.{◌+◌, ◌*◌, ◌≤◌, List, ◌++◌}
-use Rattle.loops.specs.Rows.{Holds, of_process}
+use Rattle.std.proofs.Common.{◌≡◌, ◌+◌, ◌*◌, ◌≤◌, ◌++◌}
+use Rattle.arrayvec.specs.ArrayVec.{array_vec_len}
+use Rattle.loops.specs.Rows.{edges_of, shape, of_process}
 use Rattle.marks.specs.Words.{marking}
-use Rattle.table.specs.declared.record.Edge.{Edge}
+use Rattle.table.specs.Lists.{meant}
 use Rattle.loops.proofs.row.Loops.add_process.Given as goal
 
-abbrev pub invariant-loop-l : goal.invariant-loop-l
-invariant-loop-l l =
-    ((es : List Edge) → Holds l.initial.self.items l.initial.self.wanted es → Holds l.self.items l.self.wanted (es ++ of_process (marking l.marks) l.survey.spots l.survey.chaotic (record { locations = l.locations; timers = l.timers }) l.process l.l)) × (l.self.wanted ≤ l.initial.self.wanted + 17 * l.l)
+abbrev pub invariant-loop-location : goal.invariant-loop-location
+invariant-loop-location l =
+    (edges_of l.self ≡ edges_of l.initial.self ++ of_process (marking l.marks) l.survey.spots l.survey.chaotic (shape (meant l.process)) l.p l.location)
+    × (array_vec_len l.self.items ≤ array_vec_len l.initial.self.items + 17 * l.location)

@@ -1,9 +1,10 @@
-use Rattle.std.proofs.Common.{◌+◌, ◌*◌, ◌≤◌, List, ◌++◌}
-use Rattle.loops.specs.Rows.{Holds, spot_timers}
+use Rattle.std.proofs.Common.{◌≡◌, ◌+◌, ◌*◌, ◌≤◌, ◌++◌}
+use Rattle.arrayvec.specs.ArrayVec.{array_vec_len}
+use Rattle.loops.specs.Rows.{edges_of, spot_timers}
 use Rattle.marks.specs.Words.{marking}
-use Rattle.table.specs.declared.record.Edge.{Edge}
 use Rattle.loops.proofs.row.Loops.add_timers.Given as goal
 
-abbrev pub invariant-loop-n : goal.invariant-loop-n
-invariant-loop-n l =
-    ((es : List Edge) → Holds l.initial.self.items l.initial.self.wanted es → Holds l.self.items l.self.wanted (es ++ spot_timers (marking l.marks) l.spot l.place.0 l.place.1 l.n)) × (l.self.wanted ≤ l.initial.self.wanted + 2 * l.n)
+abbrev pub invariant-loop-timer : goal.invariant-loop-timer
+invariant-loop-timer l =
+    (edges_of l.self ≡ edges_of l.initial.self ++ spot_timers (marking l.marks) l.spot l.place.process l.place.location l.timer)
+    × (array_vec_len l.self.items ≤ array_vec_len l.initial.self.items + 2 * l.timer)
