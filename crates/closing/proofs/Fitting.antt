@@ -1,20 +1,23 @@
 -- By its plan, a table that passes the examination is closed just as the rules say.
 use Rattle.std.proofs.Common.{◌≡◌, ℕ, zero, suc, ◌+◌, ◌<◌, ◌≤◌, min, Bool, true, false, cond, not, ◌&&◌, ltb, leb, List, [], ◌∷◌, ◌++◌, map, length, get_or, is_some, is_ok, Some, None, Ok, Err, Option, Result, sym, refl, ap, ◌∙◌, subst, inl, inr, ⊎_elim, zero-add, arith}
-use Rattle.std.proofs.lemmas.List.{take_all, get_or_default}
-use Rattle.std.proofs.lemmas.Bool.{both_ways, and_from, and_cases, and_left, cond-true, cond-false, lt-ltb, le-leb, leb-false, ltb-false}
+use Rattle.std.proofs.lemmas.List.{get_or_default}
+use Rattle.std.proofs.lemmas.Bool.{both_ways, and_cases, cond-true, cond-false, lt-ltb, le-leb, leb-false, ltb-false}
 use Rattle.std.proofs.lemmas.Bool.Decides.{nat_tests}
-use Rattle.std.specs.List.{range_with_len, flat_map}
+use Rattle.std.specs.List.{range_with_len, flat_map, find}
 use Rattle.std.specs.Option.{option_or, option_map}
+use Rattle.std.specs.Bool.{then_some}
 use Rattle.closing.specs.Faults.{testing}
-use Rattle.closing.specs.Layers.{timers_in, fate_in, freed_as_in, freed_in, edge_in, process_in, loops_in, closed_in, layered}
+use Rattle.closing.specs.Layers.{timers_in, freed_as_in, freed_in, edge_in, process_in, loops_in, closed_in, by_plan, layered}
 use Rattle.closing.specs.Plans.{Planned, ninth_in, count_in, count_refused_in, room_refused, test_refused_in}
 use Rattle.closing.specs.declared.fault.TestFault.{TestFault}
 use Rattle.closing.specs.declared.plan.Plan.{Plan}
-use Rattle.loops.specs.Rows.{Holds, timer_edges, chaos_edges, spot_timers, at_spot, shape, of_process, added_by}
+use Rattle.loops.specs.Rows.{timer_edges, chaos_edges, spot_timers, at_spot, shape, of_process, added_by}
 use Rattle.marks.specs.Instances.{process_at}
 use Rattle.marks.specs.Rules.{Marking, Least, marked}
 use Rattle.marks.specs.Words.{bit}
+use Rattle.refusal.specs.Refusals.{outcome, table_refusal}
 use Rattle.refusal.specs.declared.fault.Refusal.{Refusal}
+use Rattle.refusal.specs.declared.fault.TableFault.{TableFault}
 use Rattle.rules.proofs.Examined.{Passed, passed, process-there}
 use Rattle.rules.proofs.Fates.{there-is}
 use Rattle.rules.proofs.Lists.{In, in-counting, first_from-all, none-some, none-parts, mapped-none, cond-none}
@@ -125,11 +128,11 @@ module _ (T : Lists) (M : Marking) (q : Plan) (passes : examined T ≡ None) (pl
       all : min (length T.processes) 8 ≡ length T.processes
       all = omega (arith, few)
 
-  pub holds : Holds q.loops.items q.loops.wanted (added T M)
-  holds = subst (Holds q.loops.items q.loops.wanted) added-same plan.loops
+  loops_same : loops_in q ≡ added T M
+  loops_same = plan.loops ∙ added-same
 
   pub count_same : count_in q T ≡ closed_count T M
-  count_same = ap (λ n. length T.edges + n) holds.count
+  count_same = ap (λ es. length T.edges + length es) loops_same
 
   -- the refusals by the plan
 
@@ -183,46 +186,45 @@ module _ (T : Lists) (M : Marking) (q : Plan) (passes : examined T ≡ None) (pl
           ap (λ x. cond x (with_chaos (process_at T p)) (process_at T p)) (lt-ltb (process_at T p).timers 8 l)
       by false c = refl
 
-  pub closed_same : timers_refused T ≡ None → length (added T M) ≤ 2048 → closed_in q T ≡ closed T M
+  pub closed_same : timers_refused T ≡ None → closed_in q T ≡ closed T M
   unfolding closed_in closed
-  closed_same none few-added =
+  closed_same none =
       let ps : numbered (process_in q) 0 T.processes ≡ numbered (closed_process T) 0 T.processes = numbered-same (process_in q) (closed_process T) 0 T.processes (λ p d l. subst (λ r. process_in q (0 + p) r ≡ closed_process T (0 + p) r) (get_or_default T.processes p blank d l) (subst (λ i. process_in q i (process_at T p) ≡ closed_process T i (process_at T p)) (sym (zero-add p)) (process-closed-same none p l))) in
-      let es : map (edge_in q T) T.edges ++ loops_in q ≡ map (closed_edge T M) T.edges ++ added T M = ap (λ xs. xs ++ loops_in q) (map_same (edge_in q T) (closed_edge T M) T.edges edge_same) ∙ ap (λ xs. map (closed_edge T M) T.edges ++ xs) (holds.edges ∙ take_all 2048 (added T M) few-added) in
+      let es : map (edge_in q T) T.edges ++ loops_in q ≡ map (closed_edge T M) T.edges ++ added T M = ap (λ xs. xs ++ loops_in q) (map_same (edge_in q T) (closed_edge T M) T.edges edge_same) ∙ ap (λ xs. map (closed_edge T M) T.edges ++ xs) loops_same in
       λ i. record { processes = ps i; signals = map closed_signal T.signals; edges = es i; terms = T.terms }
 
--- what the layer means, by whether the plan was turned on
+-- what a layer means, by whether it got the plan
 
-meant-closed : (T : Lists) (M : Marking) (q r : Plan) → examined T ≡ None → Planned T M q → room_refused q T ≡ None → r.on ≡ true → closed_in r T ≡ closed_in q T → layered r T ≡ closed_by T M
-unfolding layered room_refused
-meant-closed T M q r passes plan room on same =
+meant_closed : (T : Lists) (M : Marking) (q : Plan) → examined T ≡ None → Planned T M q → room_refused q T ≡ None → layered (Some q) T ≡ closed_by T M
+unfolding by_plan room_refused
+meant_closed T M q passes plan room =
     let t : test_refused T M ≡ None = test-same T M q passes plan ∙ room-is in
     let parts = none-parts (timers_refused T) (count_refused T M) (sym (room-same T M q passes plan) ∙ room-is) in
     let c = ltb-false 2048 (closed_count T M) (cond-none (ltb 2048 (closed_count T M)) (test_at 14 (closed_count T M)) parts.1) in
     let e : leb (length T.edges) 2048 ≡ true = le-leb (length T.edges) 2048 (omega arith) in
-    cond-true (r.on && leb (length T.edges) 2048) (closed_in r T) T (and_from r.on (leb (length T.edges) 2048) on e)
-    ∙ same
-    ∙ closed_same T M q passes plan parts.0 (omega arith)
-    ∙ sym (cond-false (is_some (test_refused T M)) T (closed T M) (ap is_some t))
+    ap (λ b. by_plan (cond b (Some q) None) T) e ∙ closed_same T M q passes plan parts.0 ∙ sym (cond-false (is_some (test_refused T M)) T (closed T M) (ap is_some t))
   where
     room-is : room_refused q T ≡ None
     room-is = room
 
-meant-open : (T : Lists) (M : Marking) (r : Plan) → is_some (test_refused T M) ≡ true → r.on ≡ false → layered r T ≡ closed_by T M
-unfolding layered
-meant-open T M r t off =
-    cond-false (r.on && leb (length T.edges) 2048) (closed_in r T) T (and_left r.on (leb (length T.edges) 2048) off)
-    ∙ sym (cond-true (is_some (test_refused T M)) T (closed T M) t)
+meant_open : (T : Lists) (M : Marking) → is_some (test_refused T M) ≡ true → layered None T ≡ closed_by T M
+unfolding by_plan
+meant_open T M t = sym (cond-true (is_some (test_refused T M)) T (closed T M) t)
 
-pub meant-by : (T : Lists) (M : Marking) (q r : Plan) → Planned T M q → r.on ≡ not (is_some (test_refused_in q T)) → closed_in r T ≡ closed_in q T → layered r T ≡ closed_by T M
+pub meant_by : (T : Lists) (M : Marking) (q : Plan) (b : Bool) → Planned T M q → b ≡ not (is_some (test_refused_in q T)) → layered (then_some b q) T ≡ closed_by T M
 unfolding test_refused_in test_refused
-meant-by T M q r plan on same = by (examined T) refl (room_refused q T) refl
+meant_by T M q b plan is = by (examined T) refl (room_refused q T) refl
   where
-    by : (o : Option Refusal) → examined T ≡ o → (w : Option Refusal) → room_refused q T ≡ w → layered r T ≡ closed_by T M
+    given : (x : Bool) → b ≡ x → layered (then_some x q) T ≡ closed_by T M → layered (then_some b q) T ≡ closed_by T M
+    given x e h = subst (λ y. layered (then_some y q) T ≡ closed_by T M) (sym e) h
+
+    by : (o : Option Refusal) → examined T ≡ o → (w : Option Refusal) → room_refused q T ≡ w → layered (then_some b q) T ≡ closed_by T M
     by (Some x) e w d =
-        meant-open T M r (ap (λ z. is_some (option_or z (option_or (timers_refused T) (count_refused T M)))) e) (on ∙ ap (λ z. not (is_some (option_or z (room_refused q T)))) e)
-    by None e None d = meant-closed T M q r e plan d (on ∙ ap (λ z. not (is_some (option_or z (room_refused q T)))) e ∙ ap (λ z. not (is_some z)) d) same
+        given false (is ∙ ap (λ z. not (is_some (option_or z (room_refused q T)))) e) (meant_open T M (ap (λ z. is_some (option_or z (option_or (timers_refused T) (count_refused T M)))) e))
+    by None e None d =
+        given true (is ∙ ap (λ z. not (is_some (option_or z (room_refused q T)))) e ∙ ap (λ z. not (is_some z)) d) (meant_closed T M q e plan d)
     by None e (Some x) d =
-        meant-open T M r (ap is_some (test-same T M q e plan ∙ d)) (on ∙ ap (λ z. not (is_some (option_or z (room_refused q T)))) e ∙ ap (λ z. not (is_some z)) d)
+        given false (is ∙ ap (λ z. not (is_some (option_or z (room_refused q T)))) e ∙ ap (λ z. not (is_some z)) d) (meant_open T M (ap is_some (test-same T M q e plan ∙ d)))
 
 -- a table of at most 2,048 edges
 pub few-edges : (T : Lists) → examined T ≡ None → length T.edges ≤ 2048
@@ -260,23 +262,18 @@ passed-room q T r b e h k = k ∙ by r (room_refused q T) h ∙ sym (ap (λ o. n
     by (Err f) None h = let z : ◌≡◌ {A = ℕ} 0 1 = cc in absurd (omega arith)
     by (Err f) (Some x) h = refl
 
-pub failed-table : (q : Plan) (T : Lists) (x : Refusal) → examined T ≡ Some x → false ≡ not (is_some (test_refused_in q T))
+-- what is_ok says of the examination
+pub examined_ok : (T : Lists) (r : Result (Unit {0}) TableFault) → outcome table_refusal r ≡ examined T → is_ok r ≡ true → examined T ≡ None
+examined_ok T (Ok x) h k = sym h
+examined_ok T (Err f) h k = absurd (both_ways false refl k)
+
+pub examined_err : (q : Plan) (T : Lists) (r : Result (Unit {0}) TableFault) → outcome table_refusal r ≡ examined T → is_ok r ≡ false → false ≡ not (is_some (test_refused_in q T))
 unfolding test_refused_in
-failed-table q T x e = sym (ap (λ o. not (is_some (option_or o (room_refused q T)))) e)
+examined_err q T (Ok x) h k = absurd (both_ways true k refl)
+examined_err q T (Err f) h k = ap (λ o. not (is_some (option_or o (room_refused q T)))) h
 
--- a plan means the same lists, on or off
-abbrev pub turned : (q : Plan) → Bool → length q.timers ≡ 8 → Plan
-turned q b w = record { on = b; marks = q.marks; survey = q.survey; timers = q.timers; loops = q.loops; eight = w }
-
-freed-turned : (q : Plan) (b : Bool) (w : length q.timers ≡ 8) (T : Lists) (e : Edge) (d : Mode) → freed_as_in d (turned q b w) T e ≡ freed_as_in d q T e
-freed-turned q b w T e Mode.Unguarded = refl
-freed-turned q b w T e Mode.Expression = refl
-freed-turned q b w T e Mode.Else = refl
-freed-turned q b w T e Mode.Unknown = refl
-
-pub turned_on : (q : Plan) (b : Bool) (w : length q.timers ≡ 8) (T : Lists) → closed_in (turned q b w) T ≡ closed_in q T
-unfolding closed_in edge_in
-turned_on q b w T =
-    let ps : numbered (process_in (turned q b w)) 0 T.processes ≡ numbered (process_in q) 0 T.processes = numbered-same (process_in (turned q b w)) (process_in q) 0 T.processes (λ k d l. refl) in
-    let es : map (edge_in (turned q b w) T) T.edges ++ loops_in q ≡ map (edge_in q T) T.edges ++ loops_in q = ap (λ xs. xs ++ loops_in q) (map_same (edge_in (turned q b w) T) (edge_in q T) T.edges (λ e i. ap (λ x. changed (fate_in q T e) x (timers_in q e.process) e) (freed-turned q b w T e (mode_of e.mode)))) in
-    λ i. record { processes = ps i; signals = map closed_signal T.signals; edges = es i; terms = T.terms }
+-- a search over a range
+pub first_found : (f : ℕ → Bool) (i n : ℕ) → find f (range_with_len i n) ≡ first_from f i n
+unfolding first_from
+first_found f i zero = refl
+first_found f i (suc n) = ap (λ o. cond (f i) (Some i) o) (first_found f (i + 1) n)

@@ -1,13 +1,12 @@
 -- The lists that a layer means, place by place.
-use Rattle.std.proofs.Common.{◌≡◌, ℕ, zero, suc, ◌+◌, ◌-◌, ◌<◌, ◌≤◌, min, Bool, true, false, cond, ◌&&◌, ltb, leb, List, [], ◌∷◌, ◌++◌, map, length, get_or, take, set, replicate, Some, None, sym, refl, ap, ◌∙◌, subst, suc-le-suc, zero-add, arith}
-use Rattle.std.proofs.lemmas.List.{length-map, length-append, length-take, length-take-le, get_or_past, take_at, take_more_set}
-use Rattle.std.proofs.lemmas.Bool.{cond-true, cond-false, and_from, lt-ltb}
+use Rattle.std.proofs.Common.{◌≡◌, ℕ, zero, suc, ◌+◌, ◌-◌, ◌<◌, ◌≤◌, Bool, true, false, cond, ◌&&◌, ltb, leb, List, [], ◌∷◌, ◌++◌, map, length, get_or, take, set, replicate, Some, None, Option, sym, refl, ap, ◌∙◌, subst, suc-le-suc, zero-add, arith}
+use Rattle.std.proofs.lemmas.List.{length-map, length-append, length-take-le, get_or_past, take_at, take_more_set}
+use Rattle.std.proofs.lemmas.Bool.{cond-true, and_from, lt-ltb, leb-true}
 use Rattle.std.specs.List.{slice_get}
 use Rattle.std.specs.Option.{option_map}
-use Rattle.closing.specs.Layers.{edge_in, process_in, loops_in, closed_in, layered}
+use Rattle.closing.specs.Layers.{edge_in, process_in, loops_in, closed_in, at_work, by_plan}
 use Rattle.closing.specs.declared.plan.Plan.{Plan}
 use Rattle.rules.proofs.Lists.{length-numbered, get_or-numbered}
-use Rattle.loops.specs.Rows.{loop_edge}
 use Rattle.rules.specs.Closing.{closed_signal, with_chaos}
 use Rattle.rules.specs.States.{padded}
 use Rattle.survey.specs.Surveys.{chaotic_at}
@@ -36,59 +35,64 @@ none-past [] k h = omega arith
 none-past (a ∷ xs) zero h = let z : ◌≡◌ {A = ℕ} 0 1 = cc in absurd (omega arith)
 none-past (a ∷ xs) (suc k) h = suc-le-suc (none-past xs k h)
 
-module _ (q : Plan) (T : Lists) where
-  pub layer-on : (q.on && leb (length T.edges) 2048) ≡ true → layered q T ≡ closed_in q T
-  unfolding layered
-  layer-on h = cond-true (q.on && leb (length T.edges) 2048) (closed_in q T) T h
-
-  pub layer-off : (q.on && leb (length T.edges) 2048) ≡ false → layered q T ≡ T
-  unfolding layered
-  layer-off h = cond-false (q.on && leb (length T.edges) 2048) (closed_in q T) T h
-
-  -- what is the same on and off
-  both : {A : Type 0} (f : Lists → A) → f (closed_in q T) ≡ f T → f (layered q T) ≡ f T
-  unfolding layered
-  both f h = by (q.on && leb (length T.edges) 2048)
+-- what is the same with and without a plan
+module _ (o : Option Plan) (T : Lists) where
+  both : {A : Type 0} (f : Lists → A) → ((q : Plan) → f (closed_in q T) ≡ f T) → f (by_plan o T) ≡ f T
+  unfolding by_plan
+  both f h = by o
     where
-      by : (b : Bool) → f (cond b (closed_in q T) T) ≡ f T
-      by true = h
-      by false = refl
+      by : (o : Option Plan) → f (by_plan o T) ≡ f T
+      by None = refl
+      by (Some q) = h q
 
-  pub processes-length : length (layered q T).processes ≡ length T.processes
+  pub processes_length : length (by_plan o T).processes ≡ length T.processes
   unfolding closed_in
-  processes-length = both (λ S. length S.processes) (length-numbered (process_in q) 0 T.processes)
+  processes_length = both (λ S. length S.processes) (λ q. length-numbered (process_in q) 0 T.processes)
 
-  pub signals-length : length (layered q T).signals ≡ length T.signals
+  pub signals_length : length (by_plan o T).signals ≡ length T.signals
   unfolding closed_in
-  signals-length = both (λ S. length S.signals) (length-map T.signals closed_signal)
+  signals_length = both (λ S. length S.signals) (λ q. length-map T.signals closed_signal)
 
-  pub terms-same : (layered q T).terms ≡ T.terms
+  pub terms_same : (by_plan o T).terms ≡ T.terms
   unfolding closed_in
-  terms-same = both (λ S. S.terms) refl
+  terms_same = both (λ S. S.terms) (λ q. refl)
 
-  pub edges-length : length (closed_in q T).edges ≡ length T.edges + length (loops_in q)
-  unfolding closed_in
-  edges-length = length-append (map (edge_in q T) T.edges) (loops_in q) ∙ ap (λ n. n + length (loops_in q)) (length-map T.edges (edge_in q T))
+  pub process_past : (p : ℕ) (d : Proc) → length T.processes ≤ p → get_or (by_plan o T).processes p d ≡ get_or T.processes p d
+  process_past p d h =
+      get_or_past (by_plan o T).processes p d (subst (λ n. n ≤ p) (sym processes_length) h) ∙ sym (get_or_past T.processes p d h)
 
-  pub process-at : (p : ℕ) (d e : Proc) → p < length T.processes → get_or (closed_in q T).processes p d ≡ process_in q p (get_or T.processes p e)
-  unfolding closed_in
-  process-at p d e h = get_or-numbered (process_in q) 0 T.processes p d e h ∙ ap (λ i. process_in q i (get_or T.processes p e)) (zero-add p)
+pub no_plan : (T : Lists) → by_plan None T ≡ T
+unfolding by_plan
+no_plan T = refl
 
-  pub process-past : (p : ℕ) (d : Proc) → length T.processes ≤ p → get_or (layered q T).processes p d ≡ get_or T.processes p d
-  process-past p d h =
-      get_or_past (layered q T).processes p d (subst (λ n. n ≤ p) (sym processes-length) h) ∙ sym (get_or_past T.processes p d h)
+pub few_at_work : (o : Option Plan) (T : Lists) (q : Plan) → at_work o T ≡ Some q → length T.edges ≤ 2048
+few_at_work None T q h = let z : ◌≡◌ {A = ℕ} 0 1 = cc in absurd (omega arith)
+few_at_work (Some r) T q h = leb-true (length T.edges) 2048 (by (leb (length T.edges) 2048) h)
+  where
+    by : (b : Bool) → cond b (Some r) None ≡ Some q → b ≡ true
+    by true h = refl
+    by false h = let z : ◌≡◌ {A = ℕ} 0 1 = cc in absurd (omega arith)
 
-  pub signal-at : (s : ℕ) → slice_get (closed_in q T).signals s ≡ option_map closed_signal (slice_get T.signals s)
-  unfolding closed_in
-  signal-at s = nth-map closed_signal T.signals s
+module _ (q : Plan) (T : Lists) where
+  pub edges_length : length (by_plan (Some q) T).edges ≡ length T.edges + length (loops_in q)
+  unfolding by_plan closed_in
+  edges_length = length-append (map (edge_in q T) T.edges) (loops_in q) ∙ ap (λ n. n + length (loops_in q)) (length-map T.edges (edge_in q T))
 
-  pub edge_at : (k : ℕ) (e : Edge) → slice_get T.edges k ≡ Some e → slice_get (closed_in q T).edges k ≡ Some (edge_in q T e)
-  unfolding closed_in
+  pub process_at : (p : ℕ) (d : Proc) → p < length T.processes → get_or (by_plan (Some q) T).processes p d ≡ process_in q p (get_or T.processes p d)
+  unfolding by_plan closed_in
+  process_at p d h = get_or-numbered (process_in q) 0 T.processes p d d h ∙ ap (λ i. process_in q i (get_or T.processes p d)) (zero-add p)
+
+  pub signal_at : (s : ℕ) → slice_get (by_plan (Some q) T).signals s ≡ option_map closed_signal (slice_get T.signals s)
+  unfolding by_plan closed_in
+  signal_at s = nth-map closed_signal T.signals s
+
+  pub edge_at : (k : ℕ) (e : Edge) → slice_get T.edges k ≡ Some e → slice_get (by_plan (Some q) T).edges k ≡ Some (edge_in q T e)
+  unfolding by_plan closed_in
   edge_at k e h = nth_left (map (edge_in q T) T.edges) (loops_in q) k (edge_in q T e) (nth-map (edge_in q T) T.edges k ∙ ap (option_map (edge_in q T)) h)
 
-  pub edge-past : (k : ℕ) → slice_get T.edges k ≡ None → slice_get (closed_in q T).edges k ≡ slice_get (loops_in q) (k - length T.edges)
-  unfolding closed_in
-  edge-past k h =
+  pub edge_past : (k : ℕ) → slice_get T.edges k ≡ None → slice_get (by_plan (Some q) T).edges k ≡ slice_get (loops_in q) (k - length T.edges)
+  unfolding by_plan closed_in
+  edge_past k h =
       nth_right (map (edge_in q T) T.edges) (loops_in q) k (nth-map (edge_in q T) T.edges k ∙ ap (option_map (edge_in q T)) h)
       ∙ ap (λ n. slice_get (loops_in q) (k - n)) (length-map T.edges (edge_in q T))
 
@@ -101,6 +105,5 @@ chaos-added q p n r e few l c =
     let a : meant (record { locations = r.locations; first = r.first; variables = r.variables; timers = r.timers + 1; values = r.values; settings = set r.settings n (On 0) }) ≡ with_chaos (meant r) = λ i. record { locations = r.locations; first = r.first; variables = r.variables; timers = r.timers + 1; values = take r.variables r.values; settings = s i } in
     a ∙ sym (cond-true (chaotic_at q.survey.chaotic p && ltb r.timers 8) (with_chaos (meant r)) (meant r) (and_from (chaotic_at q.survey.chaotic p) (ltb r.timers 8) c (lt-ltb r.timers 8 few)))
 
-pub loops-length : (q : Plan) → length (loops_in q) ≡ min q.loops.wanted 2048
-loops-length q =
-    length-map (take q.loops.wanted q.loops.items) loop_edge ∙ length-take q.loops.wanted q.loops.items ∙ ap (min q.loops.wanted) q.loops.size
+-- how a layer answers
+pub ruleset answering = (no_plan, processes_length, signals_length, terms_same, edges_length, process_at, process_past, signal_at, edge_at, edge_past, few_at_work, none-past, nth-map)

@@ -7,10 +7,12 @@
 --   process_in q p r     process p, whose record means r, with its chaos timer if it has one
 --   loops_in q           the added edges
 --   closed_in q T        the four lists by the plan
---   layered q T          what the layer means: those lists if the plan is on, else the table below
-use Rattle.std.specs.Prelude.{ℕ, Bool, false, cond, ◌&&◌, List, ◌++◌, map, length, take, nat_le, nat_lt, slice_index}
+--   at_work o T          the plan o of a layer over the table below, if it closes: no table of more than 2,048 edges
+--   by_plan o T          the lists by the plan o, if there is one, else the table below
+--   layered o T          what a layer with the plan o means
+use Rattle.std.specs.Prelude.{ℕ, Bool, false, cond, ◌&&◌, List, ◌++◌, map, length, Some, None, Option, nat_le, nat_lt, slice_index}
 use Rattle.closing.specs.declared.plan.Plan.{Plan}
-use Rattle.loops.specs.Rows.{loop_edge}
+use Rattle.loops.specs.Rows.{edges_of}
 use Rattle.marks.specs.Rules.{Marking, marked}
 use Rattle.marks.specs.Words.{marking}
 use Rattle.rules.specs.Closing.{Fate, fate, with_chaos, closed_signal, changed}
@@ -46,7 +48,7 @@ abbrev pub process_in : Plan → ℕ → Proc → Proc
 process_in q p r = cond (chaotic_at q.survey.chaotic p && nat_lt r.timers 8) (with_chaos r) r
 
 abbrev pub loops_in : Plan → List Edge
-loops_in q = map loop_edge (take q.loops.wanted q.loops.items)
+loops_in q = edges_of q.loops
 
 unfoldable pub closed_in : Plan → Lists → Lists
 closed_in q T = record {
@@ -56,5 +58,13 @@ closed_in q T = record {
   terms = T.terms;
 }
 
-unfoldable pub layered : Plan → Lists → Lists
-layered q T = cond (q.on && nat_le (length T.edges) 2048) (closed_in q T) T
+abbrev pub at_work : Option Plan → Lists → Option Plan
+at_work None T = None
+at_work (Some q) T = cond (nat_le (length T.edges) 2048) (Some q) None
+
+unfoldable pub by_plan : Option Plan → Lists → Lists
+by_plan None T = T
+by_plan (Some q) T = closed_in q T
+
+abbrev pub layered : Option Plan → Lists → Lists
+layered o T = by_plan (at_work o T) T

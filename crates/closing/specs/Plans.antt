@@ -4,11 +4,11 @@
 --   timers_refused_in, count_refused_in   13 and 14 by the plan
 --   room_refused q T     the first of them
 --   test_refused_in q T  why the test refuses, by the plan
-use Rattle.std.specs.Prelude.{◌≡◌, ℕ, ◌+◌, ◌<◌, ◌≤◌, min, Bool, cond, ◌&&◌, length, Some, None, Option, nat_le, nat_lt}
+use Rattle.std.specs.Prelude.{◌≡◌, ℕ, ◌+◌, ◌<◌, min, Bool, cond, ◌&&◌, length, Some, None, Option, nat_le, nat_lt}
 use Rattle.std.specs.Option.{option_or, option_map}
-use Rattle.closing.specs.Layers.{marks_in, timers_in}
+use Rattle.closing.specs.Layers.{marks_in, timers_in, loops_in}
 use Rattle.closing.specs.declared.plan.Plan.{Plan}
-use Rattle.loops.specs.Rows.{Holds, added_by}
+use Rattle.loops.specs.Rows.{added_by}
 use Rattle.marks.specs.Instances.{process_at}
 use Rattle.marks.specs.Rules.{Marking}
 use Rattle.refusal.specs.declared.fault.Refusal.{Refusal}
@@ -21,8 +21,7 @@ pub record Planned (T : Lists) (M : Marking) (q : Plan) : Type 0 where
   pub marks : marks_in q ≡ M
   pub survey : Surveyed T M T.edges q.survey.spots q.survey.chaotic
   pub timers : (p : ℕ) → p < 8 → timers_in q p ≡ (process_at T p).timers
-  pub loops : Holds q.loops.items q.loops.wanted (added_by M q.survey.spots q.survey.chaotic T.processes (min (length T.processes) 8))
-  pub bound : q.loops.wanted ≤ 2176
+  pub loops : loops_in q ≡ added_by M q.survey.spots q.survey.chaotic T.processes (min (length T.processes) 8)
 
 abbrev pub ninth_in : Plan → ℕ → Bool
 ninth_in q p = chaotic_at q.survey.chaotic p && nat_le 8 (timers_in q p)
@@ -31,7 +30,7 @@ abbrev pub timers_refused_in : Plan → Lists → Option Refusal
 timers_refused_in q T = option_map (test_at 13) (first_from (ninth_in q) 0 (length T.processes))
 
 abbrev pub count_in : Plan → Lists → ℕ
-count_in q T = length T.edges + q.loops.wanted
+count_in q T = length T.edges + length (loops_in q)
 
 abbrev pub count_refused_in : Plan → Lists → Option Refusal
 count_refused_in q T = cond (nat_lt 2048 (count_in q T)) (Some (test_at 14 (count_in q T))) None

@@ -16,8 +16,8 @@ pub(crate) fn close_by<T: Table>(table: T, marks: &Marks) -> Layer<T>
     ensures meaning { layered result.plan (T.lists result.below) ≡ closed_by (T.lists table) (marking marks.now) }
     ensures below { result.below ≡ table }
 {
-    let mut plan = Plan::of(&table, marks);
-    plan.on = plan.passes(&table);
+    let plan = Plan::of(&table, marks);
+    let plan = plan.passes(&table).then_some(plan);
     Layer { below: table, plan }
 }
 
@@ -33,10 +33,13 @@ pub(crate) fn close<T: Table>(table: T) -> Layer<T>
 }
 
 /// The table as it is.
+#[tactic(auto, using(crate::proofs::Layering::answering))]
 pub(crate) fn unclosed<T: Table>(table: T) -> Layer<T>
     ensures meaning { layered result.plan (T.lists result.below) ≡ T.lists table }
     ensures below { result.below ≡ table }
 {
-    let plan = Plan::of(&table, &Marks::of([0; 128]));
-    Layer { below: table, plan }
+    Layer {
+        below: table,
+        plan: None,
+    }
 }

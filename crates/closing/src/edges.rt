@@ -4,22 +4,19 @@ ghost use Rattle.closing.specs.Layers.{timers_in, freed_in, fate_in, edge_in};
 ghost use Rattle.rules.specs.Closing.{waits, skipped, emptied, changed};
 
 use crate::plan::Plan;
-use survey::edges::class_of;
 use survey::marked::is_marked;
-use table::questions::Table;
+use table::questions::{Table, class_of};
 use table::record::{Class, Edge, Kind, Mode, Span};
-
-const NO_SPAN: Span = Span { start: 0, count: 0 };
 
 /// An input that waits for chaos: a rearm of the chaos timer to 0.
 fn waiting(edge: &Edge, timer: u8) -> Edge
     ensures { result ≡ changed waits false timer edge.now }
 {
     Edge {
-        kind: 6,
+        kind: Kind::Rearm as u8,
         first: timer,
         second: 0,
-        value: NO_SPAN,
+        value: Span::default(),
         ..*edge
     }
 }
@@ -28,10 +25,10 @@ fn skipped(edge: &Edge) -> Edge
     ensures { result ≡ changed skipped false 0 edge.now }
 {
     Edge {
-        kind: 7,
+        kind: Kind::Skip as u8,
         first: 0,
         second: 0,
-        value: NO_SPAN,
+        value: Span::default(),
         ..*edge
     }
 }
@@ -40,7 +37,7 @@ fn emptied(edge: &Edge) -> Edge
     ensures { result ≡ changed emptied false 0 edge.now }
 {
     Edge {
-        value: NO_SPAN,
+        value: Span::default(),
         ..*edge
     }
 }
@@ -50,7 +47,7 @@ impl Plan {
     pub(crate) fn timers_of(&self, process: usize) -> u8
         ensures { result ≡ timers_in self.now process }
     {
-        if process < 8 { self.timers[process] } else { 0 }
+        self.timers.get(process).copied().unwrap_or(0)
     }
 
     /// The edge with its move changed, its guard as it was.
@@ -58,17 +55,14 @@ impl Plan {
         ensures { result ≡ changed (fate_in self.now (T.lists table.now) edge.now) false (timers_in self.now edge.now.process) edge.now }
     {
         match edge.does() {
-            Kind::Input => match class_of(table, edge.first) {
-                Class::Inbound => waiting(edge, self.timers_of(usize::from(edge.process))),
-                _ => *edge,
-            },
-            Kind::Output => match class_of(table, edge.first) {
-                Class::Outbound => skipped(edge),
-                _ if is_marked(table, &self.marks, edge, edge.value) => emptied(edge),
-                _ => *edge,
-            },
+            Kind::Input if class_of(table, edge.first) == Class::Inbound => {
+                waiting(edge, self.timers_of(edge.process.into()))
+            }
+            Kind::Output if class_of(table, edge.first) == Class::Outbound => skipped(edge),
             Kind::Assignment if is_marked(table, &self.marks, edge, edge.value) => skipped(edge),
-            Kind::Set if is_marked(table, &self.marks, edge, edge.value) => emptied(edge),
+            Kind::Output | Kind::Set if is_marked(table, &self.marks, edge, edge.value) => {
+                emptied(edge)
+            }
             _ => *edge,
         }
     }
@@ -79,23 +73,21 @@ impl Plan {
     {
         match edge.guarded() {
             Mode::Expression => is_marked(table, &self.marks, edge, edge.guard),
-            Mode::Else => {
-                let (process, location) = (usize::from(edge.process), usize::from(edge.from));
-                self.survey.spot(process, location).guard_marked
-            }
+            Mode::Else => self.survey.spot(edge.start()).guard_marked,
             _ => false,
         }
     }
 
     /// What the edge becomes.
+    #[tactic(auto, unfolding(crate::specs::Layers::edge_in))]
     pub(crate) fn close_edge<T: Table>(&self, table: &T, edge: &Edge) -> Edge
         ensures { result ≡ edge_in self.now (T.lists table.now) edge.now }
     {
         let changed = self.change(table, edge);
         if self.frees(table, edge) {
             Edge {
-                mode: 0,
-                guard: NO_SPAN,
+                mode: Mode::Unguarded as u8,
+                guard: Span::default(),
                 ..changed
             }
         } else {

@@ -1,51 +1,31 @@
 //! The closing layer: the table below, closed by a plan. It answers each question from the plan and one question below.
-ghost use Rattle.std.specs.Prelude.{◌≡◌, ◌&&◌, length, nat_le};
+ghost use Rattle.std.specs.Prelude.{◌≡◌, ◌≤◌, length};
 ghost use Rattle.std.specs.List.{slice_get};
-ghost use Rattle.closing.specs.Layers.{process_in, loops_in, layered};
-ghost use Rattle.loops.specs.Rows.{loop_edge};
+ghost use Rattle.std.specs.Option.{option_copied};
+ghost use Rattle.closing.specs.Layers.{process_in, loops_in, at_work, layered};
 ghost use Rattle.rules.specs.Closing.{closed_signal};
 ghost use Rattle.table.specs.Lists.{meant};
 
 use crate::plan::Plan;
-use loops::row::Loop;
 use table::limits;
 use table::questions::Table;
-use table::record::{Class, Edge, Process, Signal, Span, Term, Timer};
+use table::record::{Class, Edge, Process, Signal, Term, Timer};
 
-const NO_SPAN: Span = Span { start: 0, count: 0 };
-
-/// Holds the table below by value.
+/// Holds the table below by value. Without a plan it is that table.
 #[derive(Drop)]
 pub struct Layer<T> {
     pub(crate) below: T,
-    pub(crate) plan: Plan,
+    pub(crate) plan: Option<Plan>,
 }
 
 /// Inbound and outbound signals become absent.
 fn closed_signal(signal: Signal) -> Signal
     ensures { result ≡ closed_signal signal }
 {
-    match signal.is() {
-        Class::Inbound | Class::Outbound => Signal::ABSENT,
-        _ => signal,
-    }
-}
-
-/// The edge that an added loop is.
-fn loop_edge(added: Loop) -> Edge
-    ensures { result ≡ loop_edge added }
-{
-    let (kind, second) = if added.rearm { (6, 1) } else { (5, 0) };
-    Edge {
-        process: added.process,
-        from: added.location,
-        to: added.location,
-        kind,
-        first: added.timer,
-        second,
-        mode: 0,
-        guard: NO_SPAN,
-        value: NO_SPAN,
+    if matches!(signal.is(), Class::Inbound | Class::Outbound) {
+        Signal::ABSENT
+    } else {
+        signal
     }
 }
 
@@ -60,84 +40,88 @@ impl Plan {
         }
     }
 
-    /// How many edges are added: at most 2,048.
+    /// How many edges are added.
     fn added(&self) -> usize
-        ensures { result ≡ length (loops_in self.now) }
+        ensures value { result ≡ length (loops_in self.now) }
+        ensures bound { result ≤ 2176 }
     {
-        self.loops.wanted().min(limits::EDGES)
+        self.loops.wanted()
     }
 
+    #[tactic(auto, using(crate::proofs::Layering::answering))]
     fn added_edge(&self, k: usize) -> Option<Edge>
         ensures { result ≡ slice_get (loops_in self.now) k }
     {
-        match self.loops.at(k) {
-            Some(added) => Some(loop_edge(added)),
-            None => None,
-        }
+        self.loops.at(k).map(Edge::from)
     }
 }
 
 impl<T: Table> Layer<T> {
-    /// Whether the layer closes, which it does only for tables of at most 2,048 edges.
-    fn closes(&self) -> bool
-        ensures { result ≡ (self.now.plan.on && nat_le (length (T.lists self.now.below).edges) 2048) }
+    /// The plan, if the layer closes, which it does only for tables of at most 2,048 edges.
+    fn at_work(&self) -> Option<&Plan>
+        ensures { option_copied result ≡ at_work self.now.plan (T.lists self.now.below) }
     {
-        self.plan.on && self.below.edge_count() <= limits::EDGES
+        if self.below.edge_count() > limits::EDGES {
+            return None;
+        }
+        self.plan.as_ref()
     }
 }
 
 impl<T: Table> Table for Layer<T> {
     ghost lists = { λ s. layered s.plan (T.Table.lists s.below) };
 
+    #[tactic(auto, using(crate::proofs::Layering::answering))]
     fn process_count(&self) -> usize {
         self.below.process_count()
     }
 
+    #[tactic(auto, using(crate::proofs::Layering::answering))]
     fn signal_count(&self) -> usize {
         self.below.signal_count()
     }
 
+    #[tactic(auto, using(crate::proofs::Layering::answering))]
     fn edge_count(&self) -> usize {
-        let count = self.below.edge_count();
-        if self.closes() {
-            count + self.plan.added()
-        } else {
-            count
-        }
+        let added = self.at_work().map_or(0, |plan| plan.added());
+        self.below.edge_count() + added
     }
 
+    #[tactic(auto, using(crate::proofs::Layering::answering))]
     fn term_count(&self) -> usize {
         self.below.term_count()
     }
 
+    #[tactic(auto, using(crate::proofs::Layering::answering))]
     fn process(&self, p: usize, place: &mut Process) -> bool {
         let found = self.below.process(p, place);
-        if found && self.closes() {
-            self.plan.close_process(p, place);
+        if found && let Some(plan) = self.at_work() {
+            plan.close_process(p, place);
         }
         found
     }
 
+    #[tactic(auto, using(crate::proofs::Layering::answering))]
     fn signal(&self, s: usize) -> Option<Signal> {
-        if !self.closes() {
-            return self.below.signal(s);
-        }
-        match self.below.signal(s) {
-            Some(signal) => Some(closed_signal(signal)),
-            None => None,
-        }
+        let signal = self.below.signal(s)?;
+        Some(match self.at_work() {
+            Some(_) => closed_signal(signal),
+            None => signal,
+        })
     }
 
+    #[tactic(auto, using(crate::proofs::Layering::answering))]
     fn edge(&self, k: usize) -> Option<Edge> {
-        if !self.closes() {
+        let Some(plan) = self.at_work() else {
             return self.below.edge(k);
-        }
+        };
         match self.below.edge(k) {
-            Some(edge) => Some(self.plan.close_edge(&self.below, &edge)),
-            None => self.plan.added_edge(k - self.below.edge_count()),
+            Some(edge) => Some(plan.close_edge(&self.below, &edge)),
+            None => plan.added_edge(k - self.below.edge_count()),
         }
     }
 
+    #[tactic(auto, using(crate::proofs::Layering::answering))]
     fn term(&self, i: usize) -> Option<Term> {
         self.below.term(i)
     }

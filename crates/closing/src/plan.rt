@@ -6,10 +6,9 @@ use marks::marks::Marks;
 use survey::spots::Survey;
 
 /// All that the layer's answers need, computed once: the marks, what was seen of locations and processes, how many timers each
-/// process has, and the added edges. A plan that is off closes nothing.
-#[derive(Clone, Copy)]
+/// process has, and the added edges.
+#[derive(Drop)]
 pub struct Plan {
-    pub(crate) on: bool,
     pub(crate) marks: Marks,
     pub(crate) survey: Survey,
     pub(crate) timers: [u8; 8],

@@ -1,9 +1,10 @@
 //! The test: whether a table can be closed, and how many edges it then has.
 ghost use Rattle.std.specs.Prelude.{◌≡◌, ◌≤◌, not, length, is_some};
 ghost use Rattle.closing.specs.Faults.{testing};
-ghost use Rattle.closing.specs.Plans.{count_in, room_refused, test_refused_in};
+ghost use Rattle.closing.specs.Plans.{ninth_in, count_in, room_refused, test_refused_in};
 ghost use Rattle.rules.specs.Promise.{Tests};
 ghost use Rattle.rules.specs.Steps.{answer};
+ghost use Rattle.table.specs.Examination.{first_from};
 
 use crate::fault::TestFault;
 use crate::plan::Plan;
@@ -14,14 +15,13 @@ use table::questions::Table;
 
 impl Plan {
     /// Whether there is room for the chaos timers and the added edges; answers how many edges there then are.
+    #[tactic(auto, unfolding(crate::specs::Plans::room_refused))]
     pub(crate) fn check_room<T: Table>(&self, table: &T) -> Result<usize, TestFault>
-        requires { (self.now.loops.wanted ≤ 2176) × (length (T.lists table.now).edges ≤ 2048) }
+        requires { length (T.lists table.now).edges ≤ 2048 }
         ensures { testing result ≡ answer (room_refused self.now (T.lists table.now)) (count_in self.now (T.lists table.now)) }
     {
-        for p in 0..table.process_count() {
-            if self.survey.is_chaotic(p) && self.timers_of(p) >= limits::TIMERS {
-                return Err(TestFault::NinthTimer(p));
-            }
+        if let Some(process) = self.first_full(table.process_count()) {
+            return Err(TestFault::NinthTimer(process));
         }
         let edges = table.edge_count() + self.loops.wanted();
         if edges > limits::EDGES {
@@ -30,15 +30,24 @@ impl Plan {
         Ok(edges)
     }
 
+    /// The first of so many processes that gains a chaos timer and has no room for it.
+    fn first_full(&self, processes: usize) -> Option<usize>
+        ensures { result ≡ first_from (ninth_in self.now) 0 processes }
+    {
+        (0..processes).find(|p| self.is_full(*p))
+    }
+
+    fn is_full(&self, process: usize) -> bool
+        ensures { result ≡ ninth_in self.now process }
+    {
+        self.survey.is_chaotic(process) && self.timers_of(process) >= limits::TIMERS
+    }
+
     /// Whether the table passes the test, by this plan.
     pub(crate) fn passes<T: Table>(&self, table: &T) -> bool
-        requires { self.now.loops.wanted ≤ 2176 }
         ensures { result ≡ not (is_some (test_refused_in self.now (T.lists table.now))) }
     {
-        match examine(table) {
-            Ok(()) => self.check_room(table).is_ok(),
-            Err(_) => false,
-        }
+        examine(table).is_ok() && self.check_room(table).is_ok()
     }
 }
 

@@ -15,9 +15,9 @@ returns-in_err-marks g c =
 pub check_room-requires : goal.check_room-requires
 check_room-requires g c =
     let T = g.T.Table.lists c.args.table.now in
-    (c.of.ensures.planned.bound, few-edges T (sym c.in_ok-marks.ensures.refused))
+    few-edges T (sym c.in_ok-marks.ensures.refused)
 
 pub returns : goal.returns
 returns g c =
     let T = g.T.Table.lists c.args.table.now in
-    tests-planned T (marking c.in_ok-marks.marks) c.of.result (testing c.check_room.result) (sym c.in_ok-marks.ensures.refused) c.in_ok-marks.ensures.least c.of.ensures.planned c.check_room.ensures
+    tests-planned T (marking c.in_ok-marks.marks) c.of.result (testing c.check_room.result) (sym c.in_ok-marks.ensures.refused) c.in_ok-marks.ensures.least c.of.ensures c.check_room.ensures

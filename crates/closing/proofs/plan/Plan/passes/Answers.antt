@@ -1,15 +1,17 @@
-use Rattle.std.proofs.Common.{sym}
-use Rattle.closing.proofs.Fitting.{few-edges, passed-room, failed-table}
-use Rattle.refusal.specs.Refusals.{table_refusal}
+use Rattle.std.proofs.Common.{sym, ◌∙◌}
+use Rattle.closing.proofs.Fitting.{few-edges, passed-room, examined_ok, examined_err}
 use Rattle.closing.proofs.plan.Plan.passes.Goals as goal
 
 pub check_room-requires : goal.check_room-requires
-check_room-requires g c = (c.requires, few-edges (g.T.Table.lists c.args.table.now) (sym c.in-Ok.ensures))
+check_room-requires g c =
+    let T = g.T.Table.lists c.args.table.now in
+    few-edges T (examined_ok T c.examine.result c.examine.ensures (sym c.is_ok.ensures.value ∙ c.if-is_ok.true))
 
-pub returns-in-Ok : goal.returns-in-Ok
-returns-in-Ok g c =
-    passed-room c.args.self.now (g.T.Table.lists c.args.table.now) c.check_room.result c.is_ok.result (sym c.in-Ok.ensures) c.check_room.ensures c.is_ok.ensures.value
+pub returns-then-is_ok : goal.returns-then-is_ok
+returns-then-is_ok g c =
+    let T = g.T.Table.lists c.args.table.now in
+    passed-room c.args.self.now T c.check_room.result c.is_ok-then-is_ok.result (examined_ok T c.examine.result c.examine.ensures (sym c.is_ok.ensures.value ∙ c.if-is_ok.true)) c.check_room.ensures c.is_ok-then-is_ok.ensures.value
 
-pub returns-in-Err : goal.returns-in-Err
-returns-in-Err g c =
-    failed-table c.args.self.now (g.T.Table.lists c.args.table.now) (table_refusal c.in-Err.field-0) (sym c.in-Err.ensures)
+pub returns-else-is_ok : goal.returns-else-is_ok
+returns-else-is_ok g c =
+    c.if-is_ok.false ∙ examined_err c.args.self.now (g.T.Table.lists c.args.table.now) c.examine.result c.examine.ensures (sym c.is_ok.ensures.value ∙ c.if-is_ok.false)
