@@ -1,7 +1,7 @@
 """Prints pairs of functions that read alike: python3 tools/twins.py [LEAST]
 
 Names, numbers and texts count as one another, contracts and comments as nothing. A pair is as alike as the words that both have in the same order
-are of all words; it is printed from LEAST (0.8) on, where the shorter function has 15 words or more."""
+are of all words; it is printed from LEAST (0.8) on. A function whose body has fewer than 20 words only passes a question on, and is not compared."""
 
 import difflib
 import pathlib
@@ -23,7 +23,9 @@ def functions(path):
             i += 1
             continue
         body = [x for x in lines[i : j + 1] if not re.match(r"\s*(requires|ensures|//)", x)]
-        yield f"{path}:{i + 1} {head[2]}", [word(w) for w in WORD.findall("\n".join(body))]
+        code = "\n".join(body)
+        if len(WORD.findall(code[code.find("{") :])) >= 20:
+            yield f"{path}:{i + 1} {head[2]}", [word(w) for w in WORD.findall(code)]
         i = j + 1
 
 
@@ -39,13 +41,13 @@ def main():
     found = 0
     for i, (a, xs) in enumerate(all_of):
         for b, ys in all_of[i + 1 :]:
-            if min(len(xs), len(ys)) < 15 or 2 * min(len(xs), len(ys)) < least * (len(xs) + len(ys)):
+            if 2 * min(len(xs), len(ys)) < least * (len(xs) + len(ys)):
                 continue
             ratio = difflib.SequenceMatcher(None, xs, ys, autojunk=False).ratio()
             if ratio >= least:
                 found += 1
                 print(f"{ratio:.2f} {a} = {b}")
-    print(f"{found} pairs of {len(all_of)} functions")
+    print(f"{found} pairs of {len(all_of)} functions compared")
 
 
 main()

@@ -38,15 +38,4 @@ impl Edge {
             location: self.from.into(),
         }
     }
-
-    /// The location that the edge goes to.
-    pub fn end(&self) -> Site
-        ensures process { result.process ≡ self.now.process }
-        ensures location { result.location ≡ self.now.to }
-    {
-        Site {
-            process: self.process.into(),
-            location: self.to.into(),
-        }
-    }
 }
