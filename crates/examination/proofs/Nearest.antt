@@ -1,22 +1,25 @@
--- The first number that a test hits, and the first location: as a loop finds it, and of tests that agree.
-use Rattle.std.proofs.Common.{◌≡◌, ℕ, zero, suc, ◌+◌, ◌-◌, ◌<◌, ◌≤◌, Bool, true, false, cond, List, [], ◌∷◌, Some, None, Option, refl, ap, ◌∙◌, arith}
-use Rattle.std.specs.List.{slice_get}
+-- The first location that a test hits: as a search finds it, and of tests that agree.
+use Rattle.std.proofs.Common.{◌≡◌, ℕ, zero, suc, ◌+◌, ◌<◌, Bool, true, false, cond, List, [], ◌∷◌, map, Some, None, Option, refl, ap, ◌∙◌, arith}
+use Rattle.std.specs.List.{slice_get, find, range_with_len}
 use Rattle.std.specs.Option.{option_or, option_map}
 use Rattle.table.specs.Examination.{first_at, first_from, first_location, location_in}
 use Rattle.table.specs.Lists.{Proc}
+use Rattle.table.specs.declared.site.Site.{Site}
+use Rattle.examination.specs.Locations.{pair}
 
-module _ (h : ℕ → Bool) (i n : ℕ) where
-  pub from_end : n ≤ i → first_from h i (n - i) ≡ None
-  unfolding first_from
-  from_end le = let z : n - i ≡ 0 = omega arith in rw z
+abbrev pub at : ℕ → ℕ → Site
+at p l = record { process = p; location = l }
 
-  pub from-hit : i < n → h i ≡ true → first_from h i (n - i) ≡ Some i
-  unfolding first_from
-  from-hit lt t = let z : n - i ≡ suc (n - (i + 1)) = omega arith in rw (z, t)
-
-  pub from-miss : i < n → h i ≡ false → first_from h i (n - i) ≡ first_from h (i + 1) (n - (i + 1))
-  unfolding first_from
-  from-miss lt t = let z : n - i ≡ suc (n - (i + 1)) = omega arith in rw (z, t)
+-- among the locations of process p in turn
+pub found_in : (h : ℕ → ℕ → Bool) (p n i : ℕ) → option_map pair (find (λ s. h s.process s.location) (map (λ l. at p l) (range_with_len i n))) ≡ option_map (λ l. (p, l)) (first_from (h p) i n)
+unfolding first_from
+found_in h p zero i = refl
+found_in h p (suc n) i = go (h p i) refl (found_in h p n (i + 1))
+  where
+    go : (b : Bool) → h p i ≡ b → option_map pair (find (λ s. h s.process s.location) (map (λ l. at p l) (range_with_len (i + 1) n))) ≡ option_map (λ l. (p, l)) (first_from (h p) (i + 1) n)
+        → option_map pair (cond (h p i) (Some (at p i)) (find (λ s. h s.process s.location) (map (λ l. at p l) (range_with_len (i + 1) n)))) ≡ option_map (λ l. (p, l)) (cond (h p i) (Some i) (first_from (h p) (i + 1) n))
+    go true e rest = rw e
+    go false e rest = rw e rest
 
 from-cong : (h k : ℕ → Bool) (n i : ℕ) → ((l : ℕ) → l < i + n → h l ≡ k l) → first_from h i n ≡ first_from k i n
 unfolding first_from

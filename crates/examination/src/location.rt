@@ -32,26 +32,18 @@ fn leaving<T: Table, F: Fn(&Edge) -> bool>(table: &T, test: F) -> Locations
     found
 }
 
-/// The first of so many locations of the process that passes the test.
-fn find_in<H: Fn(Site) -> bool>(process: usize, locations: u8, test: H) -> Option<Site>
-    requires { H.IsAlwaysCallable test }
-    ensures { (h : ℕ → ℕ → Bool) → ((s : Site) (b : Bool) → H.post test s b → b ≡ h s.process s.location) → option_map pair result ≡ option_map (λ l. (process, l)) (first_from (h process) 0 locations) }
-{
-    for location in 0..usize::from(locations) {
-        let site = Site { process, location };
-        if test(site) {
-            return Some(site);
-        }
-    }
-    None
-}
-
-fn find_of<T: Table, H: Fn(Site) -> bool>(table: &T, p: usize, test: H) -> Option<Site>
-    requires { H.IsAlwaysCallable test }
-    ensures { (h : ℕ → ℕ → Bool) → ((s : Site) (b : Bool) → H.post test s b → b ≡ h s.process s.location) → option_map pair result ≡ answer_at (location_in h) p (slice_get (T.lists table.now).processes p) }
+/// The first location of process p that passes the test.
+fn find_of<T: Table, H: Fn(Site) -> bool>(table: &T, p: usize, test: &H) -> Option<Site>
+    requires { H.IsAlwaysCallable test.now }
+    ensures { (h : ℕ → ℕ → Bool) → ((s : Site) (b : Bool) → H.post test.now s b → b ≡ h s.process s.location) → option_map pair result ≡ answer_at (location_in h) p (slice_get (T.lists table.now).processes p) }
 {
     let process = process_at(table, p)?;
-    find_in(p, process.locations, test)
+    (0..usize::from(process.locations))
+        .map(|location| Site {
+            process: p,
+            location,
+        })
+        .find(|site| test(*site))
 }
 
 /// The first location, process by process, that passes the test.
@@ -59,12 +51,7 @@ fn find_location<T: Table, H: Fn(Site) -> bool>(table: &T, test: H) -> Option<Si
     requires { H.IsAlwaysCallable test }
     ensures { (h : ℕ → ℕ → Bool) → ((s : Site) (b : Bool) → H.post test s b → b ≡ h s.process s.location) → option_map pair result ≡ first_location h (T.lists table.now).processes }
 {
-    for p in 0..table.process_count() {
-        if let Some(site) = find_of(table, p, &test) {
-            return Some(site);
-        }
-    }
-    None
+    (0..table.process_count()).find_map(|p| find_of(table, p, &test))
 }
 
 pub fn check_locations<T: Table>(table: &T) -> Result<(), TableFault>
