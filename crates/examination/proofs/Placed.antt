@@ -1,7 +1,8 @@
 -- In a table within its limits, the flags of locations decide the two tests of a location.
-use Rattle.std.proofs.Common.{◌≡◌, ℕ, zero, suc, ◌<◌, ◌≤◌, Bool, true, false, cond, not, ◌&&◌, ◌||◌, ltb, leb, List, [], ◌∷◌, length, Some, None, refl, arith}
+use Rattle.std.proofs.Common.{◌≡◌, ℕ, ◌<◌, ◌≤◌, Bool, true, false, cond, not, ◌&&◌, ◌||◌, ltb, leb, List, length, Some, None, refl, arith}
 use Rattle.std.specs.List.{slice_get}
 use Rattle.std.proofs.lemmas.Bool.{ltb-false, leb-true, or_parts, and_parts, not-false}
+use Rattle.std.proofs.lemmas.Option.{slice_get_within}
 use Rattle.table.specs.Examination.{some, bad_process, too_many, limited, limits_refused, lists_refused, processes_refused, signals_refused, first_location, too_long}
 use Rattle.table.specs.Expressions.{any}
 use Rattle.table.specs.Lists.{Lists, Proc}
@@ -9,11 +10,6 @@ use Rattle.table.specs.declared.record.Edge.{Edge}
 use Rattle.examination.specs.Locations.{has_at}
 use Rattle.examination.proofs.Nearest.{location-cong, first_passes, passes-parts}
 use Rattle.examination.proofs.Raised.{Raised}
-
-nth-within : {A : Type 0} (xs : List A) (i : ℕ) (x : A) → slice_get xs i ≡ Some x → i < length xs
-nth-within [] i x e = let z : ◌≡◌ {A = ℕ} 0 1 = cc in absurd (omega arith)
-nth-within (y ∷ ys) zero x e = omega arith
-nth-within (y ∷ ys) (suc i) x e = let h = nth-within ys i x e in omega arith
 
 not-refused : {R : Type 0} (b : Bool) (r : R) → cond b (Some r) None ≡ None → b ≡ false
 not-refused true r e = let z : ◌≡◌ {A = ℕ} 0 1 = cc in absurd (omega arith)
@@ -41,6 +37,6 @@ module _ (T : Lists) (good : limits_refused T ≡ None) where
   module _ (a b : List Bool) (f g : Edge → Bool) (ra : Raised a f T.edges) (rb : Raised b g T.edges) (with : Bool → Bool → Bool) where
     pub found-alike : first_location (λ p l. with (has_at a p l) (has_at b p l)) T.processes ≡ first_location (λ p l. with (some T f p l) (some T g p l)) T.processes
     found-alike = location-cong (λ p l. with (has_at a p l) (has_at b p l)) (λ p l. with (some T f p l) (some T g p l)) T.processes (λ p r l e lt.
-        let hp : p < 8 = let n = nth-within T.processes p r e in let m = few-processes in omega arith in
+        let hp : p < 8 = let n = slice_get_within T.processes p r e in let m = few-processes in omega arith in
         let hl : l < 16 = let n = few-locations r (sound-process p r e) in omega arith in
         rw (ra p l hp hl, rb p l hp hl))

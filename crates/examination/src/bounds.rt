@@ -57,6 +57,7 @@ fn check_signals<T: Table>(table: &T) -> Result<(), TableFault>
 }
 
 /// Whether every list, process and signal is within its limits.
+#[tactic(auto, unfolding(table::specs::Examination::limits_refused))]
 pub fn check_limits<T: Table>(table: &T) -> Result<(), TableFault>
     ensures { outcome table_refusal result ≡ limits_refused (T.lists table.now) }
 {

@@ -19,6 +19,7 @@ mod flags;
 mod location;
 
 /// Whether the table is good, and if not, what is wrong with it first.
+#[tactic(auto, unfolding(table::specs::Examination::examined))]
 pub fn examine<T: Table>(table: &T) -> Result<(), TableFault>
     ensures { outcome table_refusal result ≡ examined (T.lists table.now) }
 {
