@@ -1,49 +1,16 @@
 -- What a loop over the terms of an expression knows of its value, and that it has one exactly when it is well formed.
-use Rattle.std.proofs.Common.{◌≡◌, ℕ, suc, ◌+◌, ◌-◌, ◌<◌, ◌≤◌, Bool, true, false, cond, ◌&&◌, leb, List, [], ◌∷◌, length, ℤ, pos, negsuc, is_some, Some, None, Option, sym, refl, ap, ◌∙◌, arith}
+use Rattle.std.proofs.Common.{◌≡◌, ℕ, suc, ◌+◌, ◌-◌, ◌<◌, ◌≤◌, Bool, true, false, cond, ◌&&◌, leb, List, [], ◌∷◌, length, ℤ, is_some, Some, None, Option, sym, refl, ap, ◌∙◌, arith}
 use Rattle.std.specs.List.{slice_get}
 use Rattle.std.specs.Option.{option_map}
 use Rattle.std.proofs.lemmas.Bool.Decides.{nat_tests}
-use Rattle.table.specs.Expressions.{depth_after, fitting, formed, names, operands, suits}
+use Rattle.table.specs.Expressions.{depth_after, fitting, formed, operands, suits}
 use Rattle.table.specs.Records.{operation_of}
-use Rattle.evaluation.specs.Values.{same, one, two, combined, operated, performed, applied, single, evaluated}
+use Rattle.evaluation.specs.Values.{one, two, combined, performed, applied, single, evaluated}
 use Rattle.table.specs.declared.record.Operation.{Operation}
 use Rattle.table.specs.declared.record.Operation.TheVariants.{Number, Variable, Sum, Difference, Equal, Less, Both, Not, Unknown}
 use Rattle.table.specs.declared.record.Term.{Term}
 use Rattle.table.proofs.Forms.{depth-bound}
 use Rattle.table.proofs.Windows.{window, window-end, window-none, window-some}
-
--- a term, by what its operation is
-cond-alike : {A : Type 0} (b : Bool) (x : A) → cond b x x ≡ x
-cond-alike true x = refl
-cond-alike false x = refl
-
-operates : (vars : List ℤ) (z : ℤ) (s : List ℤ) (o : Operation) → (o ≡ Number → ⊥) → (o ≡ Variable → ⊥) → cond (suits (length vars) o z) (performed vars o z s) None ≡ cond (names 0 z) (operated o s) None
-operates vars z s Number a b = absurd (a refl)
-operates vars z s Variable a b = absurd (b refl)
-operates vars z s Sum a b = refl
-operates vars z s Difference a b = refl
-operates vars z s Equal a b = refl
-operates vars z s Less a b = refl
-operates vars z s Both a b = refl
-operates vars z s Not a b = refl
-operates vars z s Unknown a b = sym (cond-alike (names 0 z) None)
-
-zero-named : (z : ℤ) → names 0 z ≡ same z (pos 0)
-zero-named (pos n) = refl
-zero-named (negsuc n) = refl
-
-module _ (vars : List ℤ) (t : Term) (s : List ℤ) (o : Operation) (is : o ≡ operation_of t.operation) where
-  pub applied-at : applied vars t s ≡ cond (suits (length vars) o t.argument) (performed vars o t.argument s) None
-  unfolding applied
-  applied-at = rw is
-
-  pub applied-operates : (o ≡ Number → ⊥) → (o ≡ Variable → ⊥) → applied vars t s ≡ cond (same t.argument (pos 0)) (operated o s) None
-  applied-operates a b =
-      applied-at ∙ operates vars t.argument s o a b ∙ ap (λ c. cond c (operated o s) None) (zero-named t.argument)
-
-pub mapped-cond : {A B : Type 0} (f : A → B) (b : Bool) (x : A) → option_map f (cond b (Some x) None) ≡ cond b (Some (f x)) None
-mapped-cond f true x = refl
-mapped-cond f false x = refl
 
 -- how many values there are after a term
 one-sized : (f : ℤ → ℤ) (s : List ℤ) → option_map length (one f s) ≡ cond (leb 1 (length s)) (Some (length s + 1 - 1)) None

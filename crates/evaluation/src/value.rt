@@ -61,6 +61,7 @@ fn only(values: &[i16]) -> Option<i16>
 
 /// Takes the term's operands off the stack and answers the value that it gives, which is not yet put on; none where the
 /// term is unknown, its argument does not fit or operands lack.
+#[tactic(auto, unfolding(crate::specs::Values::applied))]
 fn apply(term: Term, variables: &[i16], stack: &mut Stack) -> Option<i16>
     ensures { option_map (λ v. v ∷ reverse stack.new.items) result ≡ applied variables.now term (reverse stack.old.items) }
 {
@@ -101,6 +102,7 @@ fn operate(operation: Operation, argument: i16, stack: &mut Stack) -> Option<i16
 }
 
 /// What an operation of two operands gives, `b` having been on top.
+#[tactic(auto, using(std::proofs::lemmas::Int::wraps))]
 fn combine(operation: Operation, a: i16, b: i16) -> i16
     ensures { result ≡ combined operation a b }
 {
