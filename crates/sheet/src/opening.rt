@@ -12,6 +12,7 @@ ghost use Rattle.sheet.specs.Views.{contents_of, lists_of, opened_of};
 
 use crate::view::Sheet;
 use examination::edge;
+use examination::first::first_fault;
 use reading::fault::{EdgeAt, SheetFault};
 use reading::reader::Reader;
 use reading::records::EDGE_BITS;
@@ -70,10 +71,7 @@ fn check_edge(sheet: &Sheet<'_>, k: usize) -> Result<(), EdgeAt>
 fn check_edges(sheet: &Sheet<'_>) -> Result<(), EdgeAt>
     ensures { outcome edge_at_refusal result ≡ first_at (edge_refused_at (lists_of sheet.now) sheet.now.edges_at) 0 (lists_of sheet.now).edges }
 {
-    for k in 0..usize::from(sheet.counts.edges) {
-        check_edge(sheet, k)?;
-    }
-    Ok(())
+    first_fault(usize::from(sheet.counts.edges), |k| check_edge(sheet, k))
 }
 
 /// Reads all fields in their order and then looks at the edges. The first fault decides.
