@@ -90,10 +90,10 @@ edge-loaded bs p room =
       piece bs p 55 5 0 q10 (omega arith) refl,
     ))
 
--- the first nine bytes of a part that goes to the end
-pub nine : (bs rest xs : List ℕ) (i k : ℕ) → rest ≡ slice_range bs i (length bs) → length rest + i ≡ length bs → 9 ≤ length rest → xs ≡ take 9 rest → k < 9 → get_or xs k 0 ≡ get_or bs (i + k) 0
-nine bs rest xs i k r l room s h =
-    ap (λ ys. get_or ys k 0) s ∙ get_or-take 9 rest k 0 h ∙ ap (λ ys. get_or ys k 0) r ∙ get_or-take (length bs - i) (drop i bs) k 0 (omega arith) ∙ get_or-drop i bs k 0
+-- a byte of nine
+pub nine : (bs part xs : List ℕ) (i k : ℕ) → part ≡ slice_range bs i (i + 9) → xs ≡ take 9 part → k < 9 → get_or xs k 0 ≡ get_or bs (i + k) 0
+nine bs part xs i k p s h =
+    ap (λ ys. get_or ys k 0) s ∙ get_or-take 9 part k 0 h ∙ ap (λ ys. get_or ys k 0) p ∙ get_or-take (i + 9 - i) (drop i bs) k 0 (omega arith) ∙ get_or-drop i bs k 0
 
 -- 60 bits lie in nine bytes
 abbrev pub loaded : List ℕ → ℕ

@@ -24,7 +24,8 @@ impl<'a> Reader<'a> {
         ensures value { IfSome result (λ w. w ≡ number self.now.bytes.now self.now.place 60) }
         ensures room { IfSome result (λ w. self.now.place + 60 ≤ 8 * length self.now.bytes.now) }
     {
-        let &[a, b, c, d, e, f, g, h, last] = self.bytes.get(self.place / 8..)?.first_chunk::<9>()?;
+        let i = self.place / 8;
+        let &[a, b, c, d, e, f, g, h, last] = self.bytes.get(i..i + 9)?.first_chunk::<9>()?;
         let high = u64::from_be_bytes([a, b, c, d, e, f, g, h]);
         let window = u128::from(high) * 256 + u128::from(last);
         Some(((window >> (12 - self.place % 8)) & ((1 << 60) - 1)) as u64)
