@@ -35,7 +35,7 @@ performed-sized vars Equal z s true e = two_sized (combined Equal) s
 performed-sized vars Less z s true e = two_sized (combined Less) s
 performed-sized vars Both z s true e = two_sized (combined Both) s
 performed-sized vars Not z s true e = one-sized _ s
-performed-sized vars Unknown z s true e = let n : ◌≡◌ {A = ℕ} 0 1 = cc in absurd (omega arith)
+performed-sized vars Unknown z s true e = cc
 
 module _ (vars : List ℤ) (t : Term) (s : List ℤ) where
   applied-sized : option_map length (applied vars t s) ≡ depth_after (length vars) t (length s)

@@ -54,7 +54,7 @@ location-cong h k ps same =
 
 none-parts : {R : Type 0} (o p : Option R) → option_or o p ≡ None → (o ≡ None) × (p ≡ None)
 none-parts None p e = (refl, e)
-none-parts (Some x) p e = let z : ◌≡◌ {A = ℕ} 0 1 = cc in absurd (omega arith)
+none-parts (Some x) p e = cc
 
 first-parts : {A R : Type 0} (f : ℕ → A → Option R) (x : A) (xs : List A) (i : ℕ) → first_at f i (x ∷ xs) ≡ None → (f i x ≡ None) × (first_at f (i + 1) xs ≡ None)
 unfolding first_at
@@ -62,7 +62,7 @@ first-parts f x xs i e = none-parts (f i x) (first_at f (i + 1) xs) e
 
 -- where no test refused, each element passes
 pub first_passes : {A R : Type 0} (f : ℕ → A → Option R) (xs : List A) (i : ℕ) → first_at f i xs ≡ None → (k : ℕ) (x : A) → slice_get xs k ≡ Some x → f (i + k) x ≡ None
-first_passes f [] i none k x e = let z : ◌≡◌ {A = ℕ} 0 1 = cc in absurd (omega arith)
+first_passes f [] i none k x e = cc
 first_passes f (y ∷ ys) i none zero x e =
     let q : y ≡ x = cc in let z : i + 0 ≡ i = omega arith in rw z (rw q at (first-parts f y ys i none).0)
 first_passes f (y ∷ ys) i none (suc k) x e =

@@ -1,10 +1,9 @@
 -- In a table within its limits, the flags of locations decide the two tests of a location.
-use Rattle.std.proofs.Common.{◌≡◌, ℕ, ◌<◌, ◌≤◌, Bool, true, false, cond, not, ◌&&◌, ◌||◌, ltb, leb, List, length, Some, None, refl, arith}
+use Rattle.std.proofs.Common.{◌≡◌, ℕ, ◌<◌, ◌≤◌, Bool, true, false, cond, List, length, Some, None, refl, arith}
 use Rattle.std.specs.List.{slice_get}
-use Rattle.std.proofs.lemmas.Bool.{ltb-false, leb-true, or_parts, and_parts, not-false}
+use Rattle.std.proofs.lemmas.Bool.Decides.{nat_tests}
 use Rattle.std.proofs.lemmas.Option.{slice_get_within}
-use Rattle.table.specs.Examination.{some, bad_process, too_many, limited, limits_refused, lists_refused, processes_refused, signals_refused, first_location, too_long}
-use Rattle.table.specs.Expressions.{any}
+use Rattle.table.specs.Examination.{some, bad_process, too_many, limited, limits_refused, lists_refused, processes_refused, signals_refused, first_location}
 use Rattle.table.specs.Lists.{Lists, Proc}
 use Rattle.table.specs.declared.record.Edge.{Edge}
 use Rattle.examination.specs.Locations.{has_at}
@@ -12,14 +11,12 @@ use Rattle.examination.proofs.Nearest.{location-cong, first_passes, passes-parts
 use Rattle.examination.proofs.Raised.{Raised}
 
 not-refused : {R : Type 0} (b : Bool) (r : R) → cond b (Some r) None ≡ None → b ≡ false
-not-refused true r e = let z : ◌≡◌ {A = ℕ} 0 1 = cc in absurd (omega arith)
+not-refused true r e = cc
 not-refused false r e = refl
 
 -- a process that is not bad has at most sixteen locations
 few-locations : (r : Proc) → bad_process r ≡ false → r.locations ≤ 16
-few-locations r e =
-    let a = (or_parts (not (leb 1 r.locations && leb r.locations 16)) (ltb 8 r.variables || (ltb 8 r.timers || (leb r.locations r.first || any too_long r.settings))) e).0 in
-    leb-true r.locations 16 (and_parts (leb 1 r.locations) (leb r.locations 16) (not-false (leb 1 r.locations && leb r.locations 16) a)).1
+few-locations r e = grind (arith, nat_tests)
 
 module _ (T : Lists) (good : limits_refused T ≡ None) where
   parts : (lists_refused T ≡ None) × ((processes_refused T ≡ None) × (signals_refused T ≡ None))
@@ -27,13 +24,12 @@ module _ (T : Lists) (good : limits_refused T ≡ None) where
   parts = passes-parts (lists_refused T) (processes_refused T) (signals_refused T) good
 
   pub few-processes : length T.processes ≤ 8
-  few-processes =
-      ltb-false 8 (length T.processes) (or_parts (ltb 8 (length T.processes)) (ltb 64 (length T.signals) || (ltb 2048 (length T.edges) || ltb 4096 (length T.terms))) (not-refused (too_many T) _ parts.0)).0
+  few-processes = let n = not-refused (too_many T) _ parts.0 in grind (arith, nat_tests)
 
   pub sound-process : (p : ℕ) (r : Proc) → slice_get T.processes p ≡ Some r → bad_process r ≡ false
   sound-process p r e = not-refused (bad_process r) _ (first_passes (limited bad_process) T.processes 0 parts.1.0 p r e)
 
-  -- flags that stand for the edges which pass f and g answer, at each location, what h answers of the edges
+  -- where flags tell which locations an edge leaves that passes f, and which one that passes g, a test of both flags hits what the same test of the edges hits
   module _ (a b : List Bool) (f g : Edge → Bool) (ra : Raised a f T.edges) (rb : Raised b g T.edges) (with : Bool → Bool → Bool) where
     pub found-alike : first_location (λ p l. with (has_at a p l) (has_at b p l)) T.processes ≡ first_location (λ p l. with (some T f p l) (some T g p l)) T.processes
     found-alike = location-cong (λ p l. with (has_at a p l) (has_at b p l)) (λ p l. with (some T f p l) (some T g p l)) T.processes (λ p r l e lt.

@@ -34,7 +34,7 @@ take-some xs k x e = take_more xs k x (slice_get_within xs k x e) ∙ ap (λ v. 
 pub take_none : {A : Type 0} (xs : List A) (k : ℕ) → slice_get xs k ≡ None → take (k + 1) xs ≡ take k xs
 take_none [] zero e = refl
 take_none [] (suc k) e = rw add-one
-take_none (y ∷ ys) zero e = let z : ◌≡◌ {A = ℕ} 0 1 = cc in absurd (omega arith)
+take_none (y ∷ ys) zero e = cc
 take_none (y ∷ ys) (suc k) e = rw add-one (ap (λ w. y ∷ w) (rw add-one at (take_none ys k e)))
 
 -- the flags fs are those that the edges es raise
