@@ -3,5 +3,4 @@ pub mod Loads
 pub mod Naming
 pub mod Numbers
 pub mod Rows
-pub mod Sizes
 pub mod Viewing

@@ -12,6 +12,7 @@
 --   judged a           what a reading of the whole sheet comes to once the edges have been looked at
 --   opened bs          what the sheet bs holds, or its refusal: by the earliest bit, and if all bits are good by the lowest edge
 use Rattle.std.specs.Prelude.{ℕ, ◌+◌, ◌*◌, ◌/◌, List, [], ◌∷◌, length, take, drop, Some, None, Ok, Err, Option, Result}
+use Rattle.std.specs.List.{sum_by}
 use Rattle.std.specs.Option.{option_map}
 use Rattle.reading.specs.Formats.{Answer, got, bad}
 use Rattle.reading.specs.Layout.{Contents, sheet_format}
@@ -26,9 +27,8 @@ use Rattle.refusal.specs.declared.fault.Refusal.{Refusal}
 abbrev pub process_bits : Proc → ℕ
 process_bits p = 16 + 16 * p.variables + 16 * p.timers
 
-unfoldable pub processes_bits : List Proc → ℕ
-processes_bits [] = 0
-processes_bits (p ∷ ps) = process_bits p + processes_bits ps
+abbrev pub processes_bits : List Proc → ℕ
+processes_bits ps = sum_by process_bits ps
 
 abbrev pub edges_bit : Lists → ℕ
 edges_bit T = 44 + processes_bits T.processes + 6 * length T.signals

@@ -33,8 +33,8 @@ pub struct EdgeAt {
 impl From<EdgeAt> for SheetFault {
     ghost from_gives = { λ e f. f ≡ Edge e };
 
-    fn from(edge: EdgeAt) -> SheetFault {
-        SheetFault::Edge(edge)
+    fn from(at: EdgeAt) -> SheetFault {
+        SheetFault::Edge(at)
     }
 }
 

@@ -104,7 +104,6 @@ impl<'a> Reader<'a> {
     }
 
     /// A field of `width` bits with any content.
-    #[tactic(auto, unfolding(crate::specs::Formats::taken))]
     pub fn take(&mut self, width: usize) -> Result<u16, SheetFault>
         requires width { width ≤ 16 }
         requires room { Room self.old width }
@@ -112,11 +111,6 @@ impl<'a> Reader<'a> {
         ensures fits { IfOk result (λ v. v < 2 ^ width) }
         ensures moves { Moves result self.old.place width self.new.place }
     {
-        if !self.has(width) {
-            return Err(SheetFault::Short(self.place));
-        }
-        let value = self.peek(width);
-        self.place += width;
-        Ok(value)
+        self.within(width, 0, u16::MAX, SheetFault::Short(self.place))
     }
 }

@@ -2,18 +2,18 @@
 use Rattle.std.proofs.Common.{refl}
 use Rattle.reading.specs.Formats.{number, after, taken, each}
 use Rattle.reading.specs.Layout.{header_format, timer_format, process_format, signal_format, span_format, edge_format, term_format, name_format, sheet_format}
-use Rattle.reading.specs.Opening.{opened, processes_bits, placed}
+use Rattle.reading.specs.Opening.{opened, placed}
 use Rattle.sheet.specs.Example.{gate, gate_opened, Opens, Refuses}
 use Rattle.table.specs.Edges.{edge_fault}
 use Rattle.table.specs.Examination.{first_at}
 use Rattle.table.specs.Expressions.{formed, sound}
 
 pub opens : Opens
-unfolding number after taken each header_format timer_format process_format signal_format span_format edge_format term_format name_format sheet_format opened processes_bits placed gate gate_opened edge_fault first_at formed sound
+unfolding number after taken each header_format timer_format process_format signal_format span_format edge_format term_format name_format sheet_format opened placed gate gate_opened edge_fault first_at formed sound
 opens = record { whole = refl; less = refl; more = refl; none = refl }
 
 pub refuses : Refuses
-unfolding number after taken each header_format timer_format process_format signal_format span_format edge_format term_format name_format sheet_format opened processes_bits placed gate gate_opened edge_fault first_at formed sound
+unfolding number after taken each header_format timer_format process_format signal_format span_format edge_format term_format name_format sheet_format opened placed gate gate_opened edge_fault first_at formed sound
 refuses = record {
   cut = refl;
   count_before_cut = refl;

@@ -6,8 +6,9 @@
 --   names_of s          the names with their places
 --   opened_of s         the table, and the names of processes and of signals with their places
 --   heard r             a name that was answered: its place, and what lies there
-use Rattle.std.specs.Prelude.{ℕ, ◌+◌, List, take, drop, Some, None, Option}
+use Rattle.std.specs.Prelude.{ℕ, ◌+◌, List, take, drop, Option}
 use Rattle.std.specs.Borrow.{Bor}
+use Rattle.std.specs.Option.{option_map}
 use Rattle.reading.specs.Layout.{Contents}
 use Rattle.reading.specs.Opening.{Opened}
 use Rattle.reading.specs.Rows.{processes_from, signals_from, edges_from, terms_from, texts_at, named_at}
@@ -42,5 +43,4 @@ opened_of s = record {
 }
 
 abbrev pub heard : Option (ℕ × Bor (List ℕ)) → Option (ℕ × List ℕ)
-heard None = None
-heard (Some n) = Some (n.0, n.1.now)
+heard r = option_map (λ n. (n.0, n.1.now)) r

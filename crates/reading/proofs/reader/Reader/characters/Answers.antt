@@ -1,7 +1,7 @@
 use Rattle.std.proofs.Common.{◌≡◌, ℕ, ◌+◌, ◌/◌, ◌<◌, List, [], ◌∷◌, ◌++◌, length, get_or, take, drop, sym, refl, ap, ◌∙◌, subst, arith, length-drop, rules}
 use Rattle.std.proofs.lemmas.List.{take_more, get_or-drop, length_push}
 use Rattle.reading.specs.Formats.{field}
-use Rattle.reading.proofs.Rows.{Row, row-none, row_more, row-exit, row-all}
+use Rattle.reading.proofs.Rows.{Row, row-none, row_more, row-exit}
 use Rattle.reading.proofs.reader.Reader.characters.Goals as goal
 
 pub loop-init : goal.loop-init
@@ -30,11 +30,3 @@ loop-preserved c =
       omega (arith, c.in_ok-name_byte.ensures.moves),
       omega (arith, ap length e, length_push (take i (drop a bs)) x, c.loop.invariant.2),
     )
-
-pub returns : goal.returns
-returns c =
-    let bs = c.args.self.now.bytes.now in
-    let n : c.loop.counter ≡ c.args.count = omega arith in
-    let F = λ (k : ℕ). Row (field 8 33 126 6).reads k (take k (drop (c.args.self.now.place / 8) bs)) c.args.self.now c.loop.self in
-    let G = λ (k : ℕ). length (take k (drop (c.args.self.now.place / 8) bs)) ≡ k in
-    record { reads = row-all tt (subst F n c.loop.invariant.0) refl; moves = omega arith; whole = subst G n c.loop.invariant.2 }

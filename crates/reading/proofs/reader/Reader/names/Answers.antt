@@ -1,9 +1,9 @@
-use Rattle.std.proofs.Common.{◌≡◌, ℕ, ◌+◌, ◌*◌, ◌/◌, List, [], ◌∷◌, ◌++◌, length, get_or, sym, refl, ap, ◌∙◌, subst, arith, rules}
+use Rattle.std.proofs.Common.{◌≡◌, ℕ, ◌+◌, ◌*◌, ◌/◌, List, [], ◌∷◌, ◌++◌, length, get_or, sym, ap, ◌∙◌, subst, arith, rules}
 use Rattle.std.proofs.lemmas.List.FromFn.{map-range_with_len_more}
 use Rattle.reading.specs.Layout.{name_format}
 use Rattle.reading.specs.Rows.{text_at, texts_at, next_name, name_start}
-use Rattle.reading.proofs.Naming.{name_start-none, name_start-more, Laid, laid_none, laid_more}
-use Rattle.reading.proofs.Rows.{Row, row-none, row_more, row-exit, row-all}
+use Rattle.reading.proofs.Naming.{name_start-none, name_start-more, laid_none, laid_more}
+use Rattle.reading.proofs.Rows.{Row, row-none, row_more, row-exit}
 use Rattle.reading.proofs.reader.Reader.names.Goals as goal
 
 pub loop-init : goal.loop-init
@@ -34,10 +34,3 @@ loop-preserved c =
       omega arith,
       laid_more bs a i c.loop.invariant.3 w,
     )
-
-pub returns : goal.returns
-returns c =
-    let bs = c.args.self.now.bytes.now in
-    let n : c.loop.counter ≡ c.args.count = omega arith in
-    let F = λ (k : ℕ). Row name_format.reads k (texts_at bs (c.args.self.now.place / 8) k) c.args.self.now c.loop.self in
-    record { reads = row-all tt (subst F n c.loop.invariant.0) refl; places = (subst (λ (k : ℕ). Laid bs (c.args.self.now.place / 8) k) n c.loop.invariant.3).places }

@@ -1,18 +1,18 @@
 use Rattle.std.proofs.Common.{◌≡◌, ◌+◌, ◌<◌, List, [], ◌∷◌, ◌++◌, take, set, sym, ap, ◌∙◌, subst, arith, length-take}
 use Rattle.std.proofs.lemmas.List.{take_more_set, map_push}
+use Rattle.std.proofs.lemmas.List.Sums.{sum_by_push}
 use Rattle.reading.specs.Layout.{process_format}
-use Rattle.reading.specs.Opening.{processes_bits}
+use Rattle.reading.specs.Opening.{process_bits, processes_bits}
 use Rattle.reading.specs.Readings.{read_at, value_or}
 use Rattle.reading.specs.Rows.{processes_from}
 use Rattle.reading.proofs.Chains.{read}
 use Rattle.reading.proofs.Rows.{Row, row-none, row_more, row-exit}
-use Rattle.reading.proofs.Sizes.{processes_bits-none, processes_bits-push}
 use Rattle.reading.proofs.reader.Reader.processes.Goals as goal
 use Rattle.table.specs.Edges.{blank}
 use Rattle.table.specs.Lists.{Proc, meant}
 
 pub loop-place-init : goal.loop-place-init
-loop-place-init c = (row-none process_format.reads c.args.self.now, omega (arith, processes_bits-none), omega arith)
+loop-place-init c = (row-none process_format.reads c.args.self.now, omega arith, omega arith)
 
 pub returns-in_err-process-clause-reads : goal.returns-in_err-process-clause-reads
 returns-in_err-process-clause-reads c =
@@ -31,6 +31,6 @@ loop-place-preserved c =
     let e : processes_from bs (take (i + 1) (set c.loop-place.place-items i p)) ≡ before ++ x ∷ [] =
     ap (processes_from bs) (take_more_set c.loop-place.place-items i p (omega arith)) ∙ map_push (λ q. read_at process_format blank bs q) (take i c.loop-place.place-items) p ∙ ap (λ y. before ++ y ∷ []) v in (
       subst (λ (ys : List Proc). Row process_format.reads (i + 1) ys c.args.self.now c.process.new.self) (sym e) (row_more c.loop-place.invariant.0 c.process.ensures.reads c.in_ok-process.was),
-      omega (arith, ap processes_bits e, processes_bits-push before x, c.in_ok-process.ensures.size),
+      omega (arith, ap processes_bits e, sum_by_push process_bits before x, c.in_ok-process.ensures.size),
       omega arith,
     )

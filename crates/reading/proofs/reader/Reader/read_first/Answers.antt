@@ -1,4 +1,4 @@
-use Rattle.std.proofs.Common.{◌≡◌, ℕ, ◌+◌, ◌<◌, ◌++◌, length, take, drop, sym, subst, arith, length-take, rules}
+use Rattle.std.proofs.Common.{◌≡◌, ℕ, ◌+◌, ◌<◌, ◌++◌, length, take, drop, sym, subst, arith, length-take}
 use Rattle.std.proofs.lemmas.List.{take_more_set, take-append-le}
 use Rattle.reading.proofs.Rows.{Row, row-none, row_more, row-exit, row-all}
 use Rattle.reading.proofs.reader.Reader.read_first.Goals as goal
@@ -10,12 +10,6 @@ pub returns-in_err-place-clause-reads : goal.returns-in_err-place-clause-reads
 returns-in_err-place-clause-reads g c = λ f h.
     let l : c.loop-place.place-index < c.args.count = omega (arith, length-take c.from.result c.args.places.now) in
     row-exit l (c.loop-place.invariant.0 f h) (h _ _ _ c.read.ensures) c.in_err-place.was c.from_residual.ensures.1
-
-pub returns-in_err-place-clause-moves : goal.returns-in_err-place-clause-moves
-returns-in_err-place-clause-moves g c =
-    let m = rw c.in_err-place.was at (c.requires.sixteen _ _ _ c.read.ensures) in
-    let l : c.loop-place.place-index < c.args.count = omega (arith, length-take c.from.result c.args.places.now) in
-    search rules
 
 pub loop-place-preserved : goal.loop-place-preserved
 loop-place-preserved g c =

@@ -12,7 +12,7 @@ returns-in_err-read g c = λ f d w h.
     let k = h _ _ _ c.read.ensures in
     let m = rw c.in_err-read.was at k.moves in
     let e = reach w c.loop.counter c.args.count (omega arith) in
-    record { reads = row-exit (omega arith) i.0 k.reads c.in_err-read.was c.from_residual.ensures.1; moves = search rules }
+    record { reads = row-exit {xs = row_at f d c.args.self.now.bytes.now c.args.self.now.place w c.loop.counter} (omega arith) i.0 k.reads c.in_err-read.was c.from_residual.ensures.1; moves = search rules }
 
 pub loop-preserved : goal.loop-preserved
 loop-preserved g c =
