@@ -1,9 +1,8 @@
 -- Where the names begin.
-use Rattle.std.proofs.Common.{◌≡◌, ℕ, ◌+◌, ◌-◌, ◌<◌, ◌≤◌, min, List, [], ◌∷◌, ◌++◌, map, length, get_or, take, drop, Some, None, sym, refl, ap, ◌∙◌, ⊎_elim, add-one, arith, length-take}
+use Rattle.std.proofs.Common.{◌≡◌, ℕ, ◌+◌, ◌<◌, ◌≤◌, List, [], ◌∷◌, ◌++◌, map, length, get_or, take, drop, Some, None, sym, refl, ap, ◌∙◌, add-one, arith, length-take}
 use Rattle.std.proofs.lemmas.List.FromFn.{map-range_with_len_more, length-map-range_with_len, get_or-map-range_with_len}
-use Rattle.std.proofs.lemmas.List.{length-drop, get_or-drop, get_or-take, take_all, drop_all}
+use Rattle.std.proofs.lemmas.List.{length-drop, get_or-drop, get_or-take}
 use Rattle.std.proofs.lemmas.Option.{slice_get-get_or, slice_get_past}
-use Rattle.std.proofs.lemmas.Bool.{cases_lt}
 use Rattle.std.specs.List.{slice_get, range_with_len}
 use Rattle.reading.specs.Opening.{placed}
 use Rattle.reading.specs.Rows.{text_at, texts_at, named_at, next_name, name_start}
@@ -54,24 +53,6 @@ laid_more bs a n h l =
           ap (λ k. named_at bs a n ++ (k + 1, t) ∷ []) h.start ∙ sym m;
       start = omega (arith, ap extent e, extent-push (texts_at bs a n) t, h.start, name_start-more bs a n, l);
     }
-
--- a part of a list, cut at the list's end
-pub clipped : (xs : List ℕ) (a n f t : ℕ) → f ≡ min a (length xs) → t ≡ min (a + n) (length xs) → take (t - f) (drop f xs) ≡ take n (drop a xs)
-clipped xs a n f t ef et = ⊎_elim inside outside (cases_lt a (length xs))
-  where
-    whole : a < length xs → length xs ≤ a + n → take (t - f) (drop f xs) ≡ take n (drop a xs)
-    whole h k =
-        let e : f ≡ a = omega arith in
-        let l = length-drop a xs in
-        ap (λ i. take (t - i) (drop i xs)) e ∙ take_all (t - a) (drop a xs) (omega arith) ∙ sym (take_all n (drop a xs) (omega arith))
-
-    inside : a < length xs → take (t - f) (drop f xs) ≡ take n (drop a xs)
-    inside h = ⊎_elim (λ k. let e : f ≡ a = omega arith in let m : t - a ≡ n = omega arith in ap (λ i. take (t - i) (drop i xs)) e ∙ ap (λ i. take i (drop a xs)) m) (whole h) (cases_lt (a + n) (length xs))
-
-    outside : length xs ≤ a → take (t - f) (drop f xs) ≡ take n (drop a xs)
-    outside h =
-        let e : t - f ≡ 0 = omega arith in
-        ap (λ i. take i (drop f xs)) e ∙ sym (ap (take n) (drop_all a xs h) ∙ take_all n [] (omega arith))
 
 -- a part of a row
 module _ {A : Type 0} (f : ℕ → A) (d : A) (all first count k : ℕ) (room : first + count ≤ all) where

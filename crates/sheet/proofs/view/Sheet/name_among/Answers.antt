@@ -1,15 +1,8 @@
 use Rattle.std.proofs.Common.{ℕ, ◌+◌, List, [], Some, sym, ap, ◌∙◌, arith}
 use Rattle.reading.specs.Rows.{name_start, text_at}
 use Rattle.sheet.specs.Views.{bytes_of, names_of}
-use Rattle.reading.proofs.Naming.{nth-part, nth-part-past}
+use Rattle.reading.proofs.Naming.{nth-part}
 use Rattle.sheet.proofs.view.Sheet.name_among.Goals as goal
-
-pub returns-then-k-from : goal.returns-then-k-from
-unfolding names_of
-returns-then-k-from c =
-    let s = c.args.self.now in
-    let f : ℕ → ℕ × List ℕ = λ k. (name_start (bytes_of s) s.names_at k + 1, text_at (bytes_of s) (name_start (bytes_of s) s.names_at k)) in
-    sym (nth-part-past f (0, []) (s.counts.processes + s.counts.signals) c.args.first c.args.count c.args.k c.requires (omega arith))
 
 pub returns : goal.returns
 unfolding names_of

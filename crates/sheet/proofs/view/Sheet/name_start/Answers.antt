@@ -1,5 +1,5 @@
 use Rattle.std.proofs.Common.{◌≡◌, ◌+◌, sym, ap, ◌∙◌, arith}
-use Rattle.reading.specs.Rows.{next_name, name_start}
+use Rattle.reading.specs.Rows.{next_name}
 use Rattle.sheet.specs.Views.{bytes_of}
 use Rattle.reading.proofs.Naming.{name_start-none, name_start-more}
 use Rattle.sheet.proofs.view.Sheet.name_start.Goals as goal
@@ -13,9 +13,3 @@ loop-preserved c =
     let b = rw c.at-reader.ensures.bytes at c.byte.ensures in
     let e : c.loop.at + (1 + c.from.result) ≡ next_name (bytes_of s) c.loop.at = omega arith in
     (e ∙ ap (next_name (bytes_of s)) c.loop.invariant.0 ∙ sym (name_start-more (bytes_of s) s.names_at c.loop.counter), omega arith)
-
-pub returns : goal.returns
-returns c =
-    let s = c.args.self.now in
-    let e : c.loop.counter ≡ c.args.k = omega arith in
-    record { value = c.loop.invariant.0 ∙ ap (name_start (bytes_of s) s.names_at) e; bound = omega arith }
