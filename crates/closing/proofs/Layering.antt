@@ -2,6 +2,7 @@
 use Rattle.std.proofs.Common.{◌≡◌, ℕ, zero, suc, ◌+◌, ◌-◌, ◌<◌, ◌≤◌, Bool, true, false, cond, ◌&&◌, ltb, leb, List, [], ◌∷◌, ◌++◌, map, length, get_or, take, set, replicate, Some, None, Option, sym, refl, ap, ◌∙◌, subst, suc-le-suc, zero-add, arith}
 use Rattle.std.proofs.lemmas.List.{length-map, length-append, length-take-le, get_or_past, take_at, take_more_set}
 use Rattle.std.proofs.lemmas.Bool.{cond-true, and_from, lt-ltb, leb-true}
+use Rattle.std.proofs.lemmas.Option.{slice_get-map}
 use Rattle.std.specs.List.{slice_get}
 use Rattle.std.specs.Option.{option_map}
 use Rattle.closing.specs.Layers.{edge_in, process_in, loops_in, closed_in, at_work, by_plan}
@@ -14,11 +15,6 @@ use Rattle.table.specs.Lists.{Lists, Proc, meant}
 use Rattle.table.specs.declared.record.Edge.{Edge}
 use Rattle.table.specs.declared.record.Process.{Process}
 use Rattle.table.specs.declared.record.Timer.TheVariants.{Off, On}
-
-pub nth-map : {A B : Type 0} (f : A → B) (xs : List A) (k : ℕ) → slice_get (map f xs) k ≡ option_map f (slice_get xs k)
-nth-map f [] k = refl
-nth-map f (x ∷ xs) zero = refl
-nth-map f (x ∷ xs) (suc k) = nth-map f xs k
 
 pub nth_left : {A : Type 0} (xs ys : List A) (k : ℕ) (x : A) → slice_get xs k ≡ Some x → slice_get (xs ++ ys) k ≡ Some x
 nth_left [] ys k x h = let z : ◌≡◌ {A = ℕ} 0 1 = cc in absurd (omega arith)
@@ -84,26 +80,26 @@ module _ (q : Plan) (T : Lists) where
 
   pub signal_at : (s : ℕ) → slice_get (by_plan (Some q) T).signals s ≡ option_map closed_signal (slice_get T.signals s)
   unfolding by_plan closed_in
-  signal_at s = nth-map closed_signal T.signals s
+  signal_at s = slice_get-map closed_signal T.signals s
 
   pub edge_at : (k : ℕ) (e : Edge) → slice_get T.edges k ≡ Some e → slice_get (by_plan (Some q) T).edges k ≡ Some (edge_in q T e)
   unfolding by_plan closed_in
-  edge_at k e h = nth_left (map (edge_in q T) T.edges) (loops_in q) k (edge_in q T e) (nth-map (edge_in q T) T.edges k ∙ ap (option_map (edge_in q T)) h)
+  edge_at k e h = nth_left (map (edge_in q T) T.edges) (loops_in q) k (edge_in q T e) (slice_get-map (edge_in q T) T.edges k ∙ ap (option_map (edge_in q T)) h)
 
   pub edge_past : (k : ℕ) → slice_get T.edges k ≡ None → slice_get (by_plan (Some q) T).edges k ≡ slice_get (loops_in q) (k - length T.edges)
   unfolding by_plan closed_in
   edge_past k h =
-      nth_right (map (edge_in q T) T.edges) (loops_in q) k (nth-map (edge_in q T) T.edges k ∙ ap (option_map (edge_in q T)) h)
+      nth_right (map (edge_in q T) T.edges) (loops_in q) k (slice_get-map (edge_in q T) T.edges k ∙ ap (option_map (edge_in q T)) h)
       ∙ ap (λ n. slice_get (loops_in q) (k - n)) (length-map T.edges (edge_in q T))
 
 -- a process whose chaos timer was put behind its own
-pub chaos-added : (q : Plan) (p n : ℕ) (r : Process) → n ≡ r.timers → r.timers < 8 → r.timers < length r.settings → chaotic_at q.survey.chaotic p ≡ true → meant (record { locations = r.locations; first = r.first; variables = r.variables; timers = r.timers + 1; values = r.values; settings = set r.settings n (On 0) }) ≡ process_in q p (meant r)
+pub chaos_added : (q : Plan) (p n : ℕ) (r : Process) → n ≡ r.timers → r.timers < 8 → r.timers < length r.settings → chaotic_at q.survey.chaotic p ≡ true → meant (record { locations = r.locations; first = r.first; variables = r.variables; timers = r.timers + 1; values = r.values; settings = set r.settings n (On 0) }) ≡ process_in q p (meant r)
 unfolding padded
-chaos-added q p n r e few l c =
+chaos_added q p n r e few l c =
     let ts = r.settings in
     let s : take (r.timers + 1) (set r.settings n (On 0)) ≡ take r.timers (take r.timers r.settings ++ replicate r.timers Off) ++ On 0 ∷ [] = ap (λ i. take (r.timers + 1) (set r.settings i (On 0))) e ∙ take_more_set r.settings r.timers (On 0) l ∙ ap (λ xs. xs ++ On 0 ∷ []) (sym (take_at (take r.timers r.settings) (replicate r.timers Off) r.timers (length-take-le r.timers r.settings (omega arith)))) in
     let a : meant (record { locations = r.locations; first = r.first; variables = r.variables; timers = r.timers + 1; values = r.values; settings = set r.settings n (On 0) }) ≡ with_chaos (meant r) = λ i. record { locations = r.locations; first = r.first; variables = r.variables; timers = r.timers + 1; values = take r.variables r.values; settings = s i } in
     a ∙ sym (cond-true (chaotic_at q.survey.chaotic p && ltb r.timers 8) (with_chaos (meant r)) (meant r) (and_from (chaotic_at q.survey.chaotic p) (ltb r.timers 8) c (lt-ltb r.timers 8 few)))
 
 -- how a layer answers
-pub ruleset answering = (no_plan, processes_length, signals_length, terms_same, edges_length, process_at, process_past, signal_at, edge_at, edge_past, few_at_work, none-past, nth-map)
+pub ruleset answering = (no_plan, processes_length, signals_length, terms_same, edges_length, process_at, process_past, signal_at, edge_at, edge_past, few_at_work, none-past, slice_get-map)

@@ -31,6 +31,7 @@ fn closed_signal(signal: Signal) -> Signal
 
 impl Plan {
     /// Puts the chaos timer of process p behind its own timers, if it has one.
+    #[tactic(auto, using(crate::proofs::Layering::chaos_added))]
     fn close_process(&self, p: usize, process: &mut Process)
         ensures { meant process.new ≡ process_in self.now p (meant process.old) }
     {
@@ -83,7 +84,7 @@ impl<T: Table> Table for Layer<T> {
 
     #[tactic(auto, using(crate::proofs::Layering::answering))]
     fn edge_count(&self) -> usize {
-        let added = self.at_work().map_or(0, |plan| plan.added());
+        let added = self.at_work().map_or(0, Plan::added);
         self.below.edge_count() + added
     }
 
