@@ -1,6 +1,6 @@
 -- How a survey follows a loop over the edges.
 use Rattle.std.proofs.Common.{◌≡◌, ℕ, zero, suc, ◌+◌, ◌*◌, ◌^◌, ◌<◌, ◌≤◌, Bool, true, false, cond, ◌&&◌, ◌||◌, eqb, ltb, ◌⊎◌, List, [], length, get_or, take, set, replicate, Some, None, sym, refl, ap, ◌∙◌, subst, inl, inr, arith}
-use Rattle.std.proofs.lemmas.List.{get_or-set_same, get_or-set_other}
+use Rattle.std.proofs.lemmas.List.{get_or-set_same, get_or-set_other, take_all}
 use Rattle.std.proofs.Math.Bool.{or-false, or-true}
 use Rattle.std.proofs.lemmas.Bool.{lt-ltb, le-ltb, ltb-true, cases_eq, cases_lt, eq-eqb, ne_eqb, and_from, and_left, and_right, cond-true, cond-false}
 use Rattle.std.proofs.lemmas.Bool.Decides.{nat_tests}
@@ -158,3 +158,6 @@ surveyed-blank T M ss cs a b = record {
   handled = λ p l n hp hl hn. ap (λ s. bit s.handled n) (a p l) ∙ bit-zero n;
   chaos = λ p hp. b p;
 }
+
+-- how a survey grows by an edge
+pub ruleset seeing = (surveyed-more, surveyed-none, surveyed-blank, take_all)

@@ -101,6 +101,7 @@ fn is_inviting<T: Table>(table: &T, edge: &Edge) -> bool
 }
 
 /// What the edges of the table say, under the marks.
+#[tactic(auto, using(crate::proofs::Noting::seeing))]
 pub fn survey<T: Table>(table: &T, marks: &Marks) -> Survey
     ensures { Surveyed (T.lists table.now) (marking marks.now) (T.lists table.now).edges result.spots result.chaotic }
 {
