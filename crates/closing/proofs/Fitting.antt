@@ -277,3 +277,6 @@ pub first_found : (f : ℕ → Bool) (i n : ℕ) → find f (range_with_len i n)
 unfolding first_from
 first_found f i zero = refl
 first_found f i (suc n) = ap (λ o. cond (f i) (Some i) o) (first_found f (i + 1) n)
+
+-- what the test and closing need
+pub ruleset deciding = (few-edges, examined_ok, meant_by, closes, tests-planned)

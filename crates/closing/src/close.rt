@@ -12,6 +12,7 @@ use marks::marks::Marks;
 use table::questions::Table;
 
 /// The table closed by these marks, or as it is where the test by them refuses.
+#[tactic(auto, using(crate::proofs::Fitting::deciding))]
 pub(crate) fn close_by<T: Table>(table: T, marks: &Marks) -> Layer<T>
     ensures meaning { layered result.plan (T.lists result.below) ≡ closed_by (T.lists table) (marking marks.now) }
     ensures below { result.below ≡ table }
@@ -22,6 +23,7 @@ pub(crate) fn close_by<T: Table>(table: T, marks: &Marks) -> Layer<T>
 }
 
 /// The table closed by its least marks, or as it is where the test refuses.
+#[tactic(auto, using(crate::proofs::Fitting::deciding))]
 pub(crate) fn close<T: Table>(table: T) -> Layer<T>
     ensures closes { Closes (T.lists table) (layered result.plan (T.lists result.below)) }
     ensures below { result.below ≡ table }

@@ -44,6 +44,7 @@ impl Plan {
     }
 
     /// Whether the table passes the test, by this plan.
+    #[tactic(auto, using(crate::proofs::Fitting::deciding))]
     pub(crate) fn passes<T: Table>(&self, table: &T) -> bool
         ensures { result ≡ not (is_some (test_refused_in self.now (T.lists table.now))) }
     {
@@ -52,6 +53,7 @@ impl Plan {
 }
 
 /// Whether the table can be closed; answers how many edges the closed table has.
+#[tactic(auto, using(crate::proofs::Fitting::deciding))]
 pub(crate) fn test<T: Table>(table: &T) -> Result<usize, TestFault>
     ensures { Tests (T.lists table.now) (testing result) }
 {

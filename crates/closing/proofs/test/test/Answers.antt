@@ -1,8 +1,7 @@
 use Rattle.std.proofs.Common.{sym}
 use Rattle.std.proofs.lemmas.Result.{err_from_is_err_and}
-use Rattle.closing.proofs.Fitting.{few-edges, tests-refused, tests-planned}
+use Rattle.closing.proofs.Fitting.{tests-refused}
 use Rattle.closing.specs.Faults.{testing}
-use Rattle.marks.specs.Words.{marking}
 use Rattle.refusal.specs.Refusals.{table_refusal}
 use Rattle.closing.proofs.test.test.Goals as goal
 
@@ -11,13 +10,3 @@ returns-in_err-marks g c =
     let T = g.T.Table.lists c.args.table.now in
     let p = err_from_is_err_and c.from_residual.result c.from_residual.ensures.1 in
     tests-refused T (table_refusal c.in_err-marks.field-0.0) (testing c.from_residual.result) (sym c.in_err-marks.ensures.refused) (rw (p.1, p.2))
-
-pub check_room-requires : goal.check_room-requires
-check_room-requires g c =
-    let T = g.T.Table.lists c.args.table.now in
-    few-edges T (sym c.in_ok-marks.ensures.refused)
-
-pub returns : goal.returns
-returns g c =
-    let T = g.T.Table.lists c.args.table.now in
-    tests-planned T (marking c.in_ok-marks.marks) c.of.result (testing c.check_room.result) (sym c.in_ok-marks.ensures.refused) c.in_ok-marks.ensures.least c.of.ensures c.check_room.ensures

@@ -1,16 +1,12 @@
 use Rattle.std.proofs.Common.{sym, ◌∙◌}
-use Rattle.closing.proofs.Fitting.{few-edges, passed-room, examined_ok, examined_err}
+use Rattle.closing.proofs.Fitting.{passed-room, examined_ok, examined_err}
 use Rattle.closing.proofs.plan.Plan.passes.Goals as goal
-
-pub check_room-requires : goal.check_room-requires
-check_room-requires g c =
-    let T = g.T.Table.lists c.args.table.now in
-    few-edges T (examined_ok T c.examine.result c.examine.ensures (sym c.is_ok.ensures.value ∙ c.if-is_ok.true))
 
 pub returns-then-is_ok : goal.returns-then-is_ok
 returns-then-is_ok g c =
     let T = g.T.Table.lists c.args.table.now in
-    passed-room c.args.self.now T c.check_room.result c.is_ok-then-is_ok.result (examined_ok T c.examine.result c.examine.ensures (sym c.is_ok.ensures.value ∙ c.if-is_ok.true)) c.check_room.ensures c.is_ok-then-is_ok.ensures.value
+    let e = examined_ok T c.examine.result c.examine.ensures (sym c.is_ok.ensures.value ∙ c.if-is_ok.true) in
+    passed-room c.args.self.now T c.check_room.result c.is_ok-then-is_ok.result e c.check_room.ensures c.is_ok-then-is_ok.ensures.value
 
 pub returns-else-is_ok : goal.returns-else-is_ok
 returns-else-is_ok g c =
