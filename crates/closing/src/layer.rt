@@ -69,31 +69,27 @@ impl<T: Table> Layer<T> {
     }
 }
 
+#[tactic(auto, using(crate::proofs::Layering::answering))]
 impl<T: Table> Table for Layer<T> {
     ghost lists = { λ s. layered s.plan (T.Table.lists s.below) };
 
-    #[tactic(auto, using(crate::proofs::Layering::answering))]
     fn process_count(&self) -> usize {
         self.below.process_count()
     }
 
-    #[tactic(auto, using(crate::proofs::Layering::answering))]
     fn signal_count(&self) -> usize {
         self.below.signal_count()
     }
 
-    #[tactic(auto, using(crate::proofs::Layering::answering))]
     fn edge_count(&self) -> usize {
         let added = self.at_work().map_or(0, Plan::added);
         self.below.edge_count() + added
     }
 
-    #[tactic(auto, using(crate::proofs::Layering::answering))]
     fn term_count(&self) -> usize {
         self.below.term_count()
     }
 
-    #[tactic(auto, using(crate::proofs::Layering::answering))]
     fn process(&self, p: usize, place: &mut Process) -> bool {
         let found = self.below.process(p, place);
         if found && let Some(plan) = self.at_work() {
@@ -102,7 +98,6 @@ impl<T: Table> Table for Layer<T> {
         found
     }
 
-    #[tactic(auto, using(crate::proofs::Layering::answering))]
     fn signal(&self, s: usize) -> Option<Signal> {
         let signal = self.below.signal(s)?;
         Some(match self.at_work() {
@@ -111,7 +106,6 @@ impl<T: Table> Table for Layer<T> {
         })
     }
 
-    #[tactic(auto, using(crate::proofs::Layering::answering))]
     fn edge(&self, k: usize) -> Option<Edge> {
         let Some(plan) = self.at_work() else {
             return self.below.edge(k);
@@ -122,7 +116,6 @@ impl<T: Table> Table for Layer<T> {
         }
     }
 
-    #[tactic(auto, using(crate::proofs::Layering::answering))]
     fn term(&self, i: usize) -> Option<Term> {
         self.below.term(i)
     }

@@ -15,6 +15,7 @@ use table::limits;
 use table::questions::{Table, process_or_blank};
 use table::record::Process;
 
+#[tactic(auto, using(crate::proofs::Rows::growth))]
 impl Loops {
     fn none() -> Self
         ensures edges { edges_of result ≡ [] }
@@ -49,7 +50,6 @@ impl Loops {
     }
 
     /// What is added at a location for its first timers.
-    #[tactic(auto, using(crate::proofs::Rows::growth))]
     fn add_timers(&mut self, marks: &Marks, spot: Spot, place: Place, timers: u8)
         requires room { array_vec_len self.old.items + 16 ≤ 2176 }
         requires few { timers ≤ 8 }
@@ -64,7 +64,6 @@ impl Loops {
     }
 
     /// What is added at a location: nothing if it is acting.
-    #[tactic(auto, using(crate::proofs::Rows::growth))]
     fn add_spot(&mut self, marks: &Marks, survey: &Survey, place: Place, timers: u8)
         requires room { array_vec_len self.old.items + 17 ≤ 2176 }
         requires few { timers ≤ 8 }
@@ -82,7 +81,6 @@ impl Loops {
     }
 
     /// What is added to process p, as far as it has the locations and timers that a process may have.
-    #[tactic(auto, using(crate::proofs::Rows::growth))]
     fn add_process(&mut self, marks: &Marks, survey: &Survey, p: u8, process: &Process)
         requires { array_vec_len self.old.items + 272 ≤ 2176 }
         ensures edges { edges_of self.new ≡ edges_of self.old ++ of_process (marking marks.now) survey.now.spots survey.now.chaotic (shape (meant process.now)) p (shape (meant process.now)).locations }
@@ -99,7 +97,6 @@ impl Loops {
     }
 
     /// All that is added to the table, by what was seen of it.
-    #[tactic(auto, using(crate::proofs::Rows::growth))]
     pub fn of<T: Table>(table: &T, marks: &Marks, survey: &Survey) -> Self
         ensures edges { edges_of result ≡ added_by (marking marks.now) survey.now.spots survey.now.chaotic (T.lists table.now).processes (min (length (T.lists table.now).processes) 8) }
     {
