@@ -1,5 +1,5 @@
 //! An open sheet: a table that is read in the caller's bytes.
-ghost use Rattle.std.specs.Prelude.{◌≡◌};
+ghost use Rattle.std.specs.Prelude.{◌≡◌, ◌+◌, ◌*◌, ◌≤◌, IfSome, is_some, nat_lt};
 ghost use Rattle.sheet.specs.Views.{lists_of};
 
 use reading::reader::Reader;
@@ -19,6 +19,18 @@ pub struct Sheet<'a> {
     pub(crate) edges_at: u32,
     pub(crate) terms_at: u32,
     pub(crate) names_at: u32,
+}
+
+impl<'a> Sheet<'a> {
+    /// At record k of the `count` of `width` bits that begin at bit `first`.
+    fn record(&self, first: u32, width: usize, count: u16, k: usize) -> Option<Reader<'a>>
+        requires { width ≤ 64 }
+        ensures test { is_some result ≡ nat_lt k count }
+        ensures bytes { IfSome result (λ r. r.bytes.now ≡ self.now.bytes.now) }
+        ensures place { IfSome result (λ r. r.place ≡ first + width * k) }
+    {
+        (k < usize::from(count)).then(|| Reader::at(self.bytes, first as usize + width * k))
+    }
 }
 
 #[tactic(auto, using(reading::proofs::Viewing::rows), unfolding(crate::specs::Views::lists_of))]
@@ -51,27 +63,18 @@ impl<'a> Table for Sheet<'a> {
     }
 
     fn signal(&self, s: usize) -> Option<Signal> {
-        if s >= usize::from(self.counts.signals) {
-            return None;
-        }
-        let place = self.signals_at as usize + SIGNAL_BITS * s;
-        let signal = Reader::at(self.bytes, place).signal(self.counts.processes);
+        let mut reader = self.record(self.signals_at, SIGNAL_BITS, self.counts.signals.into(), s)?;
+        let signal = reader.signal(self.counts.processes);
         Some(signal.unwrap_or(Signal::ABSENT))
     }
 
     fn edge(&self, k: usize) -> Option<Edge> {
-        if k >= usize::from(self.counts.edges) {
-            return None;
-        }
-        let place = self.edges_at as usize + EDGE_BITS * k;
-        Some(Reader::at(self.bytes, place).edge_here())
+        let reader = self.record(self.edges_at, EDGE_BITS, self.counts.edges, k)?;
+        Some(reader.edge_here())
     }
 
     fn term(&self, i: usize) -> Option<Term> {
-        if i >= usize::from(self.counts.terms) {
-            return None;
-        }
-        let place = self.terms_at as usize + TERM_BITS * i;
-        Some(Reader::at(self.bytes, place).term().unwrap_or_default())
+        let mut reader = self.record(self.terms_at, TERM_BITS, self.counts.terms, i)?;
+        Some(reader.term().unwrap_or_default())
     }
 }
