@@ -5,7 +5,7 @@ ghost use Rattle.closing.specs.declared.fault.TestFault.TheVariants.{Table};
 
 use refusal::fault::{Layer, Place, Refusal, TableFault};
 
-#[derive(Clone, Copy)]
+#[derive(Clone, Copy, Debug, PartialEq, Eq)]
 pub enum TestFault {
     Table(TableFault),
     /// The process needs a chaos timer and has eight timers of its own.

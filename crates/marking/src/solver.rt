@@ -37,7 +37,7 @@ pub fn least<T: Table>(table: &T) -> Marks
     let mut search = Search::new();
     search.at_each_edge(table, |search, edge| search.plant(table, edge));
     while let Some(node) = search.pop() {
-        search.at_each_edge(table, |search, edge| search.follow(table, edge, node));
+        search.at_each_edge(table, move |search, edge| search.follow(table, edge, node));
     }
     found(&search.words)
 }

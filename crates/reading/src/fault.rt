@@ -6,7 +6,7 @@ ghost use Rattle.reading.specs.declared.fault.SheetFault.TheVariants.{Edge};
 use refusal::fault::{BadEdge, Layer, Place, Refusal};
 
 /// Each with the first bit of what is wrong: of a field, of the surplus, or of the edge's record.
-#[derive(Clone, Copy)]
+#[derive(Clone, Copy, Debug, PartialEq, Eq)]
 pub enum SheetFault {
     /// The bytes end before the field does.
     Short(usize),
@@ -24,7 +24,7 @@ pub enum SheetFault {
 }
 
 /// A wrong edge, and the first bit of its record.
-#[derive(Clone, Copy)]
+#[derive(Clone, Copy, Debug, PartialEq, Eq)]
 pub struct EdgeAt {
     pub bad: BadEdge,
     pub bit: usize,

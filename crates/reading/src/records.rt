@@ -9,7 +9,7 @@ ghost use Rattle.reading.specs.Readings.{Room, Reads, Moves};
 use crate::fault::SheetFault;
 use crate::reader::Reader;
 use table::limits;
-use table::record::{Edge, Process, Signal, Span, Term, Timer};
+use table::record::{Class, Edge, Process, Signal, Span, Term, Timer};
 
 pub const SIGNAL_BITS: usize = 6;
 
@@ -54,8 +54,8 @@ impl<'a> Reader<'a> {
         ensures reads { Reads (signal_format processes).reads (λ s. s) self.old result self.new }
         ensures moves { Moves result self.old.place 6 self.new.place }
     {
-        let class = self.limited(3, 0, 3)? as u8;
-        let destination = if class <= 1 {
+        let class = self.limited(3, 0, Class::Absent as u16)? as u8;
+        let destination = if matches!(Class::from(class), Class::Internal | Class::Inbound) {
             self.limited(3, 0, u16::from(processes).saturating_sub(1))? as u8
         } else {
             self.zeros(3)? as u8
