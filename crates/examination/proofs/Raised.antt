@@ -4,8 +4,7 @@ use Rattle.std.proofs.lemmas.Bool.Decides.{nat_tests}
 use Rattle.std.proofs.lemmas.Grind.{get_or-set_at}
 use Rattle.std.proofs.lemmas.List.{take_more}
 use Rattle.std.proofs.lemmas.Option.{slice_get_within, get_or_from_slice_get}
-use Rattle.std.specs.List.{slice_get}
-use Rattle.table.specs.Expressions.{any}
+use Rattle.std.specs.List.{slice_get, list_any}
 use Rattle.table.specs.Examination.{leaves}
 use Rattle.examination.specs.Locations.{has_at, noted}
 use Rattle.table.specs.declared.record.Edge.{Edge}
@@ -23,8 +22,7 @@ has_at-noted : (fs : List Bool) (a b p l : ℕ) → length fs ≡ 128 → p < 8 
 unfolding has_at noted
 has_at-noted fs a b p l n hp hl = grind (arith, nat_tests, get_or-set_other {A = Bool}, get_or-set_at {X = Bool})
 
-pub any_push : {A : Type 0} (f : A → Bool) (xs : List A) (x : A) → any f (xs ++ x ∷ []) ≡ (any f xs || f x)
-unfolding any
+pub any_push : {A : Type 0} (f : A → Bool) (xs : List A) (x : A) → list_any f (xs ++ x ∷ []) ≡ (list_any f xs || f x)
 any_push f [] x = grind arith
 any_push f (y ∷ ys) x = rw (any_push f ys x) (grind arith)
 
@@ -39,7 +37,7 @@ take_none (y ∷ ys) (suc k) e = rw add-one (ap (λ w. y ∷ w) (rw add-one at (
 
 -- the flags fs are those that the edges es raise
 abbrev pub Raised : List Bool → (Edge → Bool) → List Edge → Type 0
-Raised fs f es = (p l : ℕ) → p < 8 → l < 16 → has_at fs p l ≡ any (leaves p l f) es
+Raised fs f es = (p l : ℕ) → p < 8 → l < 16 → has_at fs p l ≡ list_any (leaves p l f) es
 
 module _ (fs : List Bool) (f : Edge → Bool) (es : List Edge) (k : ℕ) (so : Raised fs f (take k es)) where
   pub raised-hit : (e : Edge) → length fs ≡ 128 → slice_get es k ≡ Some e → f e ≡ true → Raised (noted fs e.process e.from) f (take (k + 1) es)

@@ -1,11 +1,10 @@
 //! The locations of a table: which edges leave them, and the two tests of a location.
 ghost use Rattle.std.specs.Prelude.{◌≡◌, ℕ, ◌<◌, Bool, None};
 ghost use Rattle.std.specs.Fn.{FnReturnsAt};
-ghost use Rattle.std.specs.List.{slice_get};
+ghost use Rattle.std.specs.List.{slice_get, list_any};
 ghost use Rattle.std.specs.Option.{option_map};
 ghost use Rattle.examination.specs.Locations.{has_at, pair};
 ghost use Rattle.table.specs.Examination.{leaves, answer_at, first_from, location_in, first_location, limits_refused, locations_refused};
-ghost use Rattle.table.specs.Expressions.{any};
 ghost use Rattle.table.specs.declared.record.Edge.{Edge};
 ghost use Rattle.table.specs.declared.site.Site.{Site};
 ghost use Rattle.refusal.specs.Refusals.{outcome, table_refusal};
@@ -19,7 +18,7 @@ use table::site::Site;
 /// The locations that some edge leaves which passes the test.
 fn leaving<T: Table, F: Fn(&Edge) -> bool>(table: &T, test: F) -> Locations
     requires { F.IsAlwaysCallable test }
-    ensures { (f : Edge → Bool) → ((e : Edge) (b : Bool) → FnReturnsAt F.Fn test e b → b ≡ f e) → (p l : ℕ) → p < 8 → l < 16 → has_at result.flags p l ≡ any (leaves p l f) (T.lists table.now).edges }
+    ensures { (f : Edge → Bool) → ((e : Edge) (b : Bool) → FnReturnsAt F.Fn test e b → b ≡ f e) → (p l : ℕ) → p < 8 → l < 16 → has_at result.flags p l ≡ list_any (leaves p l f) (T.lists table.now).edges }
 {
     let mut found = Locations::none();
     for k in 0..table.edge_count() {

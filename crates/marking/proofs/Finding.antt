@@ -3,8 +3,7 @@ use Rattle.std.proofs.Common.{◌≡◌, ℕ, zero, suc, ◌<◌, Bool, true, fa
 use mathlib.Core.List.Memᴰ
 use mathlib.Core.List.{Memᴰ}
 use Rattle.std.proofs.lemmas.Bool.{or_cases, or_left, or_right, both_ways}
-use Rattle.std.specs.List.{slice_get, flat_map}
-use Rattle.table.specs.Expressions.{any}
+use Rattle.std.specs.List.{slice_get, flat_map, list_any}
 use Rattle.marks.specs.Rules.{indices}
 
 -- an element of xs with a property, and its place
@@ -17,20 +16,18 @@ pub record Found {A : Type 0} (P : A → Type 0) (xs : List A) : Type 0 where
 found-later : {A : Type 0} (P : A → Type 0) (x : A) (xs : List A) → Found P xs → Found P (x ∷ xs)
 found-later P x xs r = record { place = suc r.place; item = r.item; stands = r.stands; holds = r.holds }
 
-pub any_found : {A : Type 0} (f : A → Bool) (xs : List A) → any f xs ≡ true → Found (λ x. f x ≡ true) xs
-unfolding any
+pub any_found : {A : Type 0} (f : A → Bool) (xs : List A) → list_any f xs ≡ true → Found (λ x. f x ≡ true) xs
 any_found f [] e = absurd (both_ways false refl e)
 any_found f (x ∷ xs) e =
     ⊎_elim
     (λ h. record { place = 0; item = x; stands = refl; holds = h })
     (λ h. found-later (λ y. f y ≡ true) x xs (any_found f xs h))
-    (or_cases (f x) (any f xs) e)
+    (or_cases (f x) (list_any f xs) e)
 
-pub found-any : {A : Type 0} (f : A → Bool) (xs : List A) (k : ℕ) (x : A) → slice_get xs k ≡ Some x → f x ≡ true → any f xs ≡ true
-unfolding any
+pub found-any : {A : Type 0} (f : A → Bool) (xs : List A) (k : ℕ) (x : A) → slice_get xs k ≡ Some x → f x ≡ true → list_any f xs ≡ true
 found-any f [] k x e h = let z : ◌≡◌ {A = ℕ} 0 1 = cc in absurd (omega arith)
-found-any f (y ∷ ys) zero x e h = let q : x ≡ y = cc in or_left (f y) (any f ys) (ap f (sym q) ∙ h)
-found-any f (y ∷ ys) (suc k) x e h = or_right (f y) (any f ys) (found-any f ys k x e h)
+found-any f (y ∷ ys) zero x e h = let q : x ≡ y = cc in or_left (f y) (list_any f ys) (ap f (sym q) ∙ h)
+found-any f (y ∷ ys) (suc k) x e h = or_right (f y) (list_any f ys) (found-any f ys k x e h)
 
 pub joined-found : {A : Type 0} (f : A → List ℕ) (xs : List A) (i : ℕ) → Memᴰ i (flat_map f xs) → Found (λ x. Memᴰ i (f x)) xs
 joined-found f [] i m = absurd (Memᴰ.not-nil m)

@@ -3,7 +3,7 @@ use Rattle.std.proofs.Common.{◌≡◌, ℕ, zero, suc, Bool, true, false, not,
 use Rattle.std.proofs.lemmas.Bool.{both_ways, cases_Bool, eqb-false, ne_eqb}
 use Rattle.table.specs.Edges.{edge_fault}
 use Rattle.table.specs.Examination.{examined, limits_refused, locations_refused, first_at, first_from}
-use Rattle.table.specs.Expressions.{any, sound, formed}
+use Rattle.table.specs.Expressions.{sound, formed}
 use Rattle.table.specs.declared.record.Edge.{Edge}
 use Rattle.marking.specs.Example.{small, edge, span, Told, Shown}
 use Rattle.marks.specs.Rules.{Marking, Least, EdgeObeys, Obeys, marked, indices}
@@ -14,7 +14,7 @@ abbrev most : Marking
 most = record { variable = λ p l v. not (eqb p 0 && (eqb l 0 && eqb v 0)); timer = λ p l n. true }
 
 unmarked : marked small most (edge 3 0 2 0 0 (span 2 1)) (span 2 1) ≡ false
-unfolding marked any indices
+unfolding marked indices
 unmarked = refl
 
 lacks-none : (a b c : Bool) → b ≡ false → not (a && (b && c)) ≡ true
@@ -54,11 +54,10 @@ most-obeys (suc (suc (suc (suc (suc zero))))) e h = same-edge (edge 0 1 0 1 2 (s
 most-obeys (suc (suc (suc (suc (suc (suc k)))))) e h = let z : ◌≡◌ {A = ℕ} 0 1 = cc in absurd (omega arith)
 
 passes : examined small ≡ None
-unfolding examined limits_refused locations_refused first_at first_from edge_fault any sound formed
+unfolding examined limits_refused locations_refused first_at first_from edge_fault sound formed
 passes = refl
 
 told : (M : Marking) → Least small M → Told M
-unfolding any
 told M h =
     let o = h.obeys in
     let a : M.variable 0 1 0 ≡ true = (o 0 (edge 0 1 0 0 0 (span 0 0)) refl).received refl refl (λ e. omega arith) in

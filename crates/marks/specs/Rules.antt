@@ -13,9 +13,9 @@
 --   Within M N           M has no mark that N lacks
 --   Least T M            M obeys the rules, and is within all marks that do
 use Rattle.std.specs.Prelude.{◌≡◌, ℕ, Bool, true, false, not, ◌&&◌, List, Some, ◌==◌, ◌≢◌, slice_index_or}
-use Rattle.std.specs.List.{slice_get, range_with_len}
+use Rattle.std.specs.List.{slice_get, range_with_len, list_any}
 use Rattle.table.specs.Edges.{absent}
-use Rattle.table.specs.Expressions.{part, any, mentions}
+use Rattle.table.specs.Expressions.{part, mentions}
 use Rattle.table.specs.Lists.{Lists}
 use Rattle.table.specs.Records.{kind_of, class_of}
 use Rattle.table.specs.declared.record.Class.{Class}
@@ -33,7 +33,7 @@ unfoldable pub indices : List ℕ
 indices = range_with_len 0 8
 
 unfoldable pub marked : Lists → Marking → Edge → Span → Bool
-marked T M e s = any (λ v. M.variable e.process e.from v && mentions (part T.terms s) v) indices
+marked T M e s = list_any (λ v. M.variable e.process e.from v && mentions (part T.terms s) v) indices
 
 abbrev pub is_output : Kind → Bool
 is_output Input = false
@@ -47,7 +47,7 @@ is_output Skip = false
 is_output Unknown = false
 
 unfoldable pub signal_marked : Lists → Marking → ℕ → Bool
-signal_marked T M s = any (λ e. is_output (kind_of e.kind) && (e.first == s && marked T M e e.value)) T.edges
+signal_marked T M s = list_any (λ e. is_output (kind_of e.kind) && (e.first == s && marked T M e e.value)) T.edges
 
 abbrev pub class_at : Lists → ℕ → Class
 class_at T s = class_of (slice_index_or T.signals s absent).class

@@ -4,7 +4,7 @@ use Rattle.std.proofs.lemmas.List.{get_or_past}
 use Rattle.std.proofs.lemmas.Bool.{and_from, or_left, or_right, eq-eqb, cases_lt}
 use Rattle.std.proofs.lemmas.Bool.Decides.{nat_tests}
 use Rattle.evaluation.specs.Values.{performed, applied, after, evaluated, value_of, holds, nonzero, numbered}
-use Rattle.table.specs.Expressions.{part, any, names, reads, mentions}
+use Rattle.table.specs.Expressions.{part, names, reads, mentions}
 use Rattle.table.specs.Records.{operation_of}
 use Rattle.table.specs.declared.record.Operation.{Operation}
 use Rattle.table.specs.declared.record.Operation.TheVariants.{Number, Variable, Sum, Difference, Equal, Less, Both, Not, Unknown}
@@ -44,7 +44,7 @@ module _ (xs ys : List ℤ) (even : length xs ≡ length ys) where
       rw (even, performed-agrees (operation_of t.operation) t.argument s (λ q v e. h v (and_from (eqb t.operation 1) (names v t.argument) (variable-number t.operation q) e)))
 
   evaluated-agrees : (ts : List Term) (s : List ℤ) → ((v : ℕ) → mentions ts v ≡ true → Same v) → evaluated xs ts s ≡ evaluated ys ts s
-  unfolding evaluated any
+  unfolding evaluated
   evaluated-agrees [] s h = refl
   evaluated-agrees (t ∷ ts) s h =
       ap (λ o. after o (evaluated xs ts)) (applied-agrees t s (λ v e. h v (or_left (reads v t) (mentions ts v) e)))

@@ -2,7 +2,7 @@
 use Rattle.std.proofs.Common.{◌≡◌, ℕ, zero, suc, ◌+◌, ◌<◌, ◌≤◌, Bool, true, false, cond, ◌&&◌, ◌||◌, eqb, ◌⊎◌, List, [], ◌∷◌, ◌++◌, map, length, get_or, sym, refl, ap, ◌∙◌, subst, inl, inr, ⊎_elim, zero-add, arith}
 use Rattle.std.proofs.lemmas.List.{length-map, length-append, get_or-map, get_or_append_left, get_or-append-add}
 use Rattle.std.proofs.lemmas.Bool.{cases_Bool, cond-true, cond-false, and_parts, both_ways, eqb-true}
-use Rattle.std.specs.List.{range_with_len, flat_map}
+use Rattle.std.specs.List.{range_with_len, flat_map, list_any}
 use Rattle.marks.specs.Instances.{process_at}
 use Rattle.marks.specs.Rules.{Marking, class_at}
 use Rattle.rules.proofs.Lists.{In, in_left, in_right, in_parts, in_map, map-in, in-joined, joined_in, in-counting, counting-in, in-none, any_append, any-map, length-numbered, get_or-numbered}
@@ -11,7 +11,6 @@ use Rattle.rules.specs.States.{is_inbound, is_internal, is_outbound, goal, waiti
 use Rattle.rules.specs.Steps.{no_edge, edge_at}
 use Rattle.table.specs.Edges.{blank, absent}
 use Rattle.table.specs.Examination.{leaves, acts, some}
-use Rattle.table.specs.Expressions.{any}
 use Rattle.table.specs.Lists.{Lists, Proc}
 use Rattle.table.specs.Records.{class_of}
 use Rattle.table.specs.declared.record.Class.{Class}
@@ -138,7 +137,7 @@ module _ (T : Lists) (M : Marking) where
   unfolding closed
   some-closed f g p l same none =
       any_append (leaves p l f) (map (closed_edge T M) T.edges) (added T M)
-      ∙ ap (λ b. b || any (leaves p l f) (added T M)) (any-map (leaves p l f) (closed_edge T M) (leaves p l g) T.edges same)
+      ∙ ap (λ b. b || list_any (leaves p l f) (added T M)) (any-map (leaves p l f) (closed_edge T M) (leaves p l g) T.edges same)
       ∙ ap (λ b. some T g p l || b) (in-none (leaves p l f) (added T M) none)
       ∙ or_nothing (some T g p l)
     where

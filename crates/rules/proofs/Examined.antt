@@ -17,7 +17,7 @@ use Rattle.rules.specs.States.{padded, is_inbound, is_outbound, is_input, waitin
 use Rattle.table.specs.Edges.{blank, absent, proc_at, untrue_in, edge_fault}
 use Rattle.table.specs.Examination.{too_long, bad_process, bad_signal, too_many, limited, edge_refused, leaves, acting, acts, frees, freely, some, mixed, stuck, location_in, first_location, location_refused, lists_refused, processes_refused, signals_refused, edges_refused, limits_refused, locations_refused, examined, first_at, first_from}
 use Rattle.table.specs.Examination as examination
-use Rattle.table.specs.Expressions.{any}
+use Rattle.std.specs.List.{list_any}
 use Rattle.table.specs.Lists.{Lists, Proc}
 use Rattle.table.specs.Records.{kind_of, class_of, mode_of}
 use Rattle.table.specs.declared.record.Edge.{Edge}
@@ -150,10 +150,9 @@ module _ (T : Lists) (M : Marking) (tested : test_refused T M ≡ None) where
       let d = length-map T.signals closed_signal in
       grind (arith, nat_tests)
 
-  any_push : (n : ℕ) (ts : List Timer) → any too_long ts ≡ false → any too_long (padded n Off ts ++ On 0 ∷ []) ≡ false
-  unfolding any
+  any_push : (n : ℕ) (ts : List Timer) → list_any too_long ts ≡ false → list_any too_long (padded n Off ts ++ On 0 ∷ []) ≡ false
   any_push n ts h =
-      any_append too_long (padded n Off ts) (On 0 ∷ []) ∙ or_from (any too_long (padded n Off ts)) false (any-padded too_long n Off ts refl h) refl
+      any_append too_long (padded n Off ts) (On 0 ∷ []) ∙ or_from (list_any too_long (padded n Off ts)) false (any-padded too_long n Off ts refl h) refl
 
   closed-process : (p : ℕ) → p < length T.processes → bad_process (process_at (closed T M) p) ≡ false
   closed-process p h = subst (λ r. bad_process r ≡ false) (sym (process-closed T M p h)) (by (chaotic T p) refl)
@@ -162,15 +161,15 @@ module _ (T : Lists) (M : Marking) (tested : test_refused T M ≡ None) where
       by true c =
           let a = good.process p h in
           let t = room-for-chaos p h c in
-          let x = or_parts (not (leb 1 (process_at T p).locations && leb (process_at T p).locations 16)) (ltb 8 (process_at T p).variables || (ltb 8 (process_at T p).timers || (leb (process_at T p).locations (process_at T p).first || any too_long (process_at T p).settings))) a in
-          let y = or_parts (ltb 8 (process_at T p).variables) (ltb 8 (process_at T p).timers || (leb (process_at T p).locations (process_at T p).first || any too_long (process_at T p).settings)) x.1 in
-          let z = or_parts (ltb 8 (process_at T p).timers) (leb (process_at T p).locations (process_at T p).first || any too_long (process_at T p).settings) y.1 in
-          let w = or_parts (leb (process_at T p).locations (process_at T p).first) (any too_long (process_at T p).settings) z.1 in
+          let x = or_parts (not (leb 1 (process_at T p).locations && leb (process_at T p).locations 16)) (ltb 8 (process_at T p).variables || (ltb 8 (process_at T p).timers || (leb (process_at T p).locations (process_at T p).first || list_any too_long (process_at T p).settings))) a in
+          let y = or_parts (ltb 8 (process_at T p).variables) (ltb 8 (process_at T p).timers || (leb (process_at T p).locations (process_at T p).first || list_any too_long (process_at T p).settings)) x.1 in
+          let z = or_parts (ltb 8 (process_at T p).timers) (leb (process_at T p).locations (process_at T p).first || list_any too_long (process_at T p).settings) y.1 in
+          let w = or_parts (leb (process_at T p).locations (process_at T p).first) (list_any too_long (process_at T p).settings) z.1 in
           let q : ltb 8 ((process_at T p).timers + 1) ≡ false = le-ltb 8 ((process_at T p).timers + 1) (omega arith) in
-          or_from (not (leb 1 (process_at T p).locations && leb (process_at T p).locations 16)) (ltb 8 (process_at T p).variables || (ltb 8 ((process_at T p).timers + 1) || (leb (process_at T p).locations (process_at T p).first || any too_long (padded (process_at T p).timers Off (process_at T p).settings ++ On 0 ∷ [])))) x.0
-          (or_from (ltb 8 (process_at T p).variables) (ltb 8 ((process_at T p).timers + 1) || (leb (process_at T p).locations (process_at T p).first || any too_long (padded (process_at T p).timers Off (process_at T p).settings ++ On 0 ∷ []))) y.0
-          (or_from (ltb 8 ((process_at T p).timers + 1)) (leb (process_at T p).locations (process_at T p).first || any too_long (padded (process_at T p).timers Off (process_at T p).settings ++ On 0 ∷ [])) q
-          (or_from (leb (process_at T p).locations (process_at T p).first) (any too_long (padded (process_at T p).timers Off (process_at T p).settings ++ On 0 ∷ [])) w.0 (any_push (process_at T p).timers (process_at T p).settings w.1))))
+          or_from (not (leb 1 (process_at T p).locations && leb (process_at T p).locations 16)) (ltb 8 (process_at T p).variables || (ltb 8 ((process_at T p).timers + 1) || (leb (process_at T p).locations (process_at T p).first || list_any too_long (padded (process_at T p).timers Off (process_at T p).settings ++ On 0 ∷ [])))) x.0
+          (or_from (ltb 8 (process_at T p).variables) (ltb 8 ((process_at T p).timers + 1) || (leb (process_at T p).locations (process_at T p).first || list_any too_long (padded (process_at T p).timers Off (process_at T p).settings ++ On 0 ∷ []))) y.0
+          (or_from (ltb 8 ((process_at T p).timers + 1)) (leb (process_at T p).locations (process_at T p).first || list_any too_long (padded (process_at T p).timers Off (process_at T p).settings ++ On 0 ∷ [])) q
+          (or_from (leb (process_at T p).locations (process_at T p).first) (list_any too_long (padded (process_at T p).timers Off (process_at T p).settings ++ On 0 ∷ [])) w.0 (any_push (process_at T p).timers (process_at T p).settings w.1))))
       by false c = good.process p h
 
   closed-signal : (n : ℕ) (s : Signal) → bad_signal n s ≡ false → bad_signal n (closed_signal s) ≡ false

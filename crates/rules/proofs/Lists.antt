@@ -2,13 +2,12 @@
 use Rattle.std.proofs.Common.{◌≡◌, ℕ, zero, suc, ◌+◌, ◌-◌, ◌<◌, ◌≤◌, Bool, true, false, cond, ◌||◌, ◌⊎◌, List, [], ◌∷◌, ◌++◌, map, length, get_or, take, replicate, is_some, Some, None, Option, sym, refl, ap, ◌∙◌, subst, inl, inr, ⊎_elim, suc-le-suc, zero-le, add-zero, add-suc, suc-add, zero-add, arith}
 use Rattle.std.proofs.lemmas.List.{length-append, length-take-le, length-replicate, get_or-take, get_or_append_left, get_or-append_right, get_or-replicate, get_or_past}
 use Rattle.std.proofs.lemmas.Bool.{cases_Bool, cases_eq, cases_lt, or_cases, or_parts, or_from, or_left, or_right, both_ways}
-use Rattle.std.specs.List.{range_with_len, flat_map}
+use Rattle.std.specs.List.{range_with_len, flat_map, list_any}
 use Rattle.std.specs.Option.{option_or, option_map}
 use Rattle.refusal.specs.Refusals.{first}
 use Rattle.rules.specs.Matching.{position}
 use Rattle.rules.specs.States.{numbered, padded}
 use Rattle.table.specs.Examination.{first_at, first_from}
-use Rattle.table.specs.Expressions.{any}
 
 -- an element
 
@@ -73,37 +72,32 @@ counting-in k a (suc n) l h = ⊎_elim inl (λ ne. inr (counting-in k (a + 1) n 
 
 -- some element passes
 
-pub any-in : {A : Type 0} (f : A → Bool) (x : A) (xs : List A) → In x xs → f x ≡ true → any f xs ≡ true
-unfolding any
+pub any-in : {A : Type 0} (f : A → Bool) (x : A) (xs : List A) → In x xs → f x ≡ true → list_any f xs ≡ true
 any-in f x [] h t = absurd h
-any-in f x (y ∷ ys) (inl e) t = or_left (f y) (any f ys) (ap f (sym e) ∙ t)
-any-in f x (y ∷ ys) (inr h) t = or_right (f y) (any f ys) (any-in f x ys h t)
+any-in f x (y ∷ ys) (inl e) t = or_left (f y) (list_any f ys) (ap f (sym e) ∙ t)
+any-in f x (y ∷ ys) (inr h) t = or_right (f y) (list_any f ys) (any-in f x ys h t)
 
-pub none_in : {A : Type 0} (f : A → Bool) (x : A) (xs : List A) → any f xs ≡ false → In x xs → f x ≡ false
-none_in f x xs e h = ⊎_elim (λ t. absurd (both_ways (any f xs) e (any-in f x xs h t))) (λ n. n) (cases_Bool (f x))
+pub none_in : {A : Type 0} (f : A → Bool) (x : A) (xs : List A) → list_any f xs ≡ false → In x xs → f x ≡ false
+none_in f x xs e h = ⊎_elim (λ t. absurd (both_ways (list_any f xs) e (any-in f x xs h t))) (λ n. n) (cases_Bool (f x))
 
-pub in-any : {A : Type 0} (f : A → Bool) (xs : List A) → any f xs ≡ true → (x : A) × (In x xs × (f x ≡ true))
-unfolding any
+pub in-any : {A : Type 0} (f : A → Bool) (xs : List A) → list_any f xs ≡ true → (x : A) × (In x xs × (f x ≡ true))
 in-any f [] e = absurd (both_ways false refl e)
 in-any f (y ∷ ys) e =
-    ⊎_elim (λ t. (y, (inl refl, t))) (λ r. let q = in-any f ys r in (q.0, (inr q.1.0, q.1.1))) (or_cases (f y) (any f ys) e)
+    ⊎_elim (λ t. (y, (inl refl, t))) (λ r. let q = in-any f ys r in (q.0, (inr q.1.0, q.1.1))) (or_cases (f y) (list_any f ys) e)
 
-pub in-none : {A : Type 0} (f : A → Bool) (xs : List A) → ((x : A) → In x xs → f x ≡ false) → any f xs ≡ false
-unfolding any
+pub in-none : {A : Type 0} (f : A → Bool) (xs : List A) → ((x : A) → In x xs → f x ≡ false) → list_any f xs ≡ false
 in-none f [] h = refl
-in-none f (x ∷ xs) h = or_from (f x) (any f xs) (h x (inl refl)) (in-none f xs (λ y m. h y (inr m)))
+in-none f (x ∷ xs) h = or_from (f x) (list_any f xs) (h x (inl refl)) (in-none f xs (λ y m. h y (inr m)))
 
-pub any_append : {A : Type 0} (f : A → Bool) (xs ys : List A) → any f (xs ++ ys) ≡ (any f xs || any f ys)
-unfolding any
+pub any_append : {A : Type 0} (f : A → Bool) (xs ys : List A) → list_any f (xs ++ ys) ≡ (list_any f xs || list_any f ys)
 any_append f [] ys = refl
-any_append f (x ∷ xs) ys = ap (λ b. f x || b) (any_append f xs ys) ∙ grouped (f x) (any f xs) (any f ys)
+any_append f (x ∷ xs) ys = ap (λ b. f x || b) (any_append f xs ys) ∙ grouped (f x) (list_any f xs) (list_any f ys)
   where
     grouped : (a b c : Bool) → (a || (b || c)) ≡ ((a || b) || c)
     grouped true b c = refl
     grouped false b c = refl
 
-pub any-map : {A B : Type 0} (f : B → Bool) (g : A → B) (h : A → Bool) (xs : List A) → ((x : A) → In x xs → f (g x) ≡ h x) → any f (map g xs) ≡ any h xs
-unfolding any
+pub any-map : {A B : Type 0} (f : B → Bool) (g : A → B) (h : A → Bool) (xs : List A) → ((x : A) → In x xs → f (g x) ≡ h x) → list_any f (map g xs) ≡ list_any h xs
 any-map f g h [] e = refl
 any-map f g h (x ∷ xs) e = rw (e x (inl refl), any-map f g h xs (λ y m. e y (inr m)))
 
@@ -200,12 +194,12 @@ get_or-numbered f i (x ∷ xs) (suc k) d e (suc-le-suc h) =
 
 -- the place of the first that passes
 
-pub position-finds : {A : Type 0} (f : A → Bool) (xs : List A) (d : A) → any f xs ≡ true → (f (get_or xs (position f xs) d) ≡ true) × (position f xs < length xs)
-unfolding any position
+pub position-finds : {A : Type 0} (f : A → Bool) (xs : List A) (d : A) → list_any f xs ≡ true → (f (get_or xs (position f xs) d) ≡ true) × (position f xs < length xs)
+unfolding position
 position-finds f [] d e = absurd (both_ways false refl e)
 position-finds f (x ∷ xs) d e = by (f x) refl e (position-finds f xs d)
   where
-    by : (b : Bool) → f x ≡ b → (b || any f xs) ≡ true → (any f xs ≡ true → (f (get_or xs (position f xs) d) ≡ true) × (position f xs < length xs)) → (f (get_or (x ∷ xs) (cond b 0 (suc (position f xs))) d) ≡ true) × (cond b 0 (suc (position f xs)) < length (x ∷ xs))
+    by : (b : Bool) → f x ≡ b → (b || list_any f xs) ≡ true → (list_any f xs ≡ true → (f (get_or xs (position f xs) d) ≡ true) × (position f xs < length xs)) → (f (get_or (x ∷ xs) (cond b 0 (suc (position f xs))) d) ≡ true) × (cond b 0 (suc (position f xs)) < length (x ∷ xs))
     by true t q more = (t, omega arith)
     by false t q more = let r = more q in (r.0, suc-le-suc r.1)
 
@@ -224,23 +218,21 @@ get_or-padded n d xs k h =
     (λ l. get_or-append_right xs (replicate n d) (length xs) k d refl l ∙ get_or-replicate n (k - length xs) d d (omega arith) ∙ sym (get_or_past xs k d l))
     (cases_lt k (length xs))
 
-any-take : {A : Type 0} (f : A → Bool) (n : ℕ) (xs : List A) → any f xs ≡ false → any f (take n xs) ≡ false
-unfolding any
+any-take : {A : Type 0} (f : A → Bool) (n : ℕ) (xs : List A) → list_any f xs ≡ false → list_any f (take n xs) ≡ false
 any-take f zero xs h = refl
 any-take f (suc n) [] h = refl
 any-take f (suc n) (x ∷ xs) h =
-    let a = or_parts (f x) (any f xs) h in
-    or_from (f x) (any f (take n xs)) a.0 (any-take f n xs a.1)
+    let a = or_parts (f x) (list_any f xs) h in
+    or_from (f x) (list_any f (take n xs)) a.0 (any-take f n xs a.1)
 
-any-replicate : {A : Type 0} (f : A → Bool) (n : ℕ) (d : A) → f d ≡ false → any f (replicate n d) ≡ false
-unfolding any
+any-replicate : {A : Type 0} (f : A → Bool) (n : ℕ) (d : A) → f d ≡ false → list_any f (replicate n d) ≡ false
 any-replicate f zero d h = refl
-any-replicate f (suc n) d h = or_from (f d) (any f (replicate n d)) h (any-replicate f n d h)
+any-replicate f (suc n) d h = or_from (f d) (list_any f (replicate n d)) h (any-replicate f n d h)
 
-pub any-padded : {A : Type 0} (f : A → Bool) (n : ℕ) (d : A) (xs : List A) → f d ≡ false → any f xs ≡ false → any f (padded n d xs) ≡ false
+pub any-padded : {A : Type 0} (f : A → Bool) (n : ℕ) (d : A) (xs : List A) → f d ≡ false → list_any f xs ≡ false → list_any f (padded n d xs) ≡ false
 unfolding padded
 any-padded f n d xs a b =
-    any-take f n (xs ++ replicate n d) (any_append f xs (replicate n d) ∙ or_from (any f xs) (any f (replicate n d)) b (any-replicate f n d a))
+    any-take f n (xs ++ replicate n d) (any_append f xs (replicate n d) ∙ or_from (list_any f xs) (list_any f (replicate n d)) b (any-replicate f n d a))
 
 pub take_past : {A : Type 0} (s t : List A) (m : ℕ) → take (length s + m) (s ++ t) ≡ s ++ take m t
 take_past [] t m = ap (λ n. take n t) (zero-add m)

@@ -24,7 +24,7 @@ use Rattle.rules.specs.declared.step.Step.{Step}
 use Rattle.rules.specs.declared.step.Step.TheVariants.{Offer, Move, Discard, Expire, Tick}
 use Rattle.table.specs.Edges.{blank}
 use Rattle.table.specs.Examination.{first_at, first_from, examined}
-use Rattle.table.specs.Expressions.{any}
+use Rattle.std.specs.List.{list_any}
 use Rattle.table.specs.Lists.{Lists}
 use Rattle.table.specs.declared.record.Timer.TheVariants.{Off, On}
 
@@ -100,14 +100,14 @@ module _ (T : Lists) (M : Marking) (tested : test_refused T M ≡ None) (obeys :
     pub taken : AllTaken (closed T M) V steps
     pub alike : Alike T M 0 (effect T W c) (after (closed T M) V steps)
     pub few : length steps ≤ most
-    pub unoffered : any is_offer steps ≡ false
+    pub unoffered : list_any is_offer steps ≡ false
 
   nothing : (W V : World) (c : Step) → Alike T M 0 (effect T W c) V → Shadowed W V c [] 1
-  unfolding AllTaken any
+  unfolding AllTaken
   nothing W V c a = record { taken = tt; alike = a; few = omega arith; unoffered = refl }
 
   single : (W V : World) (c d : Step) → is_offer d ≡ false → Alike T M 0 W V → call_refused (closed T M) V d ≡ None → Alike T M 0 (effect T W c) (effect (closed T M) V d) → Shadowed W V c (d ∷ []) 1
-  unfolding AllTaken any
+  unfolding AllTaken
   single W V c d o a h b =
       let x = next-taken (closed T M) V d (state-passes T M tested 0 W V a) h in
       record {
@@ -188,10 +188,10 @@ module _ (T : Lists) (M : Marking) (tested : test_refused T M ≡ None) (obeys :
     pub taken : AllTaken (closed T M) V (shadow T M W V c)
     pub alike : Alike T M 0 (next T W c) (after (closed T M) V (shadow T M W V c))
     pub few : length (shadow T M W V c) ≤ one (accepts T W c) + 64 * one (accepts T W c && is_tick c)
-    pub unoffered : any is_offer (shadow T M W V c) ≡ false
+    pub unoffered : list_any is_offer (shadow T M W V c) ≡ false
 
   followed : (W V : World) (c : Step) → Alike T M 0 W V → Followed W V c
-  unfolding shadow next step_refused AllTaken any
+  unfolding shadow next step_refused AllTaken
   followed W V c a = by (accepts T W c) refl
     where
       of-taken : accepts T W c ≡ true → Shadowed W V c (shadow_taken T M W V c) (1 + 64 * one (is_tick c))
@@ -206,7 +206,7 @@ module _ (T : Lists) (M : Marking) (tested : test_refused T M ≡ None) (obeys :
             taken = subst (λ l. AllTaken (closed T M) V l) (sym e) s.taken;
             alike = subst (λ w. Alike T M 0 w (after (closed T M) V (shadow T M W V c))) (sym n) (subst (λ l. Alike T M 0 (effect T W c) (after (closed T M) V l)) (sym e) s.alike);
             few = subst (λ b. length (shadow T M W V c) ≤ one b + 64 * one (b && is_tick c)) (sym q) (subst (λ l. length l ≤ 1 + 64 * one (is_tick c)) (sym e) s.few);
-            unoffered = ap (any is_offer) e ∙ s.unoffered;
+            unoffered = ap (list_any is_offer) e ∙ s.unoffered;
           }
       by false q =
           let e : shadow T M W V c ≡ [] = cond-false (accepts T W c) (shadow_taken T M W V c) [] q in
@@ -215,13 +215,13 @@ module _ (T : Lists) (M : Marking) (tested : test_refused T M ≡ None) (obeys :
             taken = subst (λ l. AllTaken (closed T M) V l) (sym e) tt;
             alike = subst (λ w. Alike T M 0 w (after (closed T M) V (shadow T M W V c))) (sym n) (subst (λ l. Alike T M 0 W (after (closed T M) V l)) (sym e) a);
             few = subst (λ l. length l ≤ one (accepts T W c) + 64 * one (accepts T W c && is_tick c)) (sym e) (omega arith);
-            unoffered = ap (any is_offer) e;
+            unoffered = ap (list_any is_offer) e;
           }
 
   -- many calls, from worlds alike; n closed steps came before
   pub record Run (W V : World) (n : ℕ) (cs : List Step) (run : List Step) (points : List ℕ) : Type 0 where
     pub taken : AllTaken (closed T M) V run
-    pub unoffered : any is_offer run ≡ false
+    pub unoffered : list_any is_offer run ≡ false
     pub whole : Alike T M 0 (after T W cs) (after (closed T M) V run)
     pub each : length points ≡ length cs
     pub later : (i : ℕ) → i < length cs → n ≤ get_or points i 0
@@ -234,7 +234,7 @@ module _ (T : Lists) (M : Marking) (tested : test_refused T M ≡ None) (obeys :
   unfolding AllTaken ticks Matching.taken
   joined-run W V n c cs f r = record {
     taken = taken-append (closed T M) V (shadow T M W V c) rest f.taken r.taken;
-    unoffered = any_append is_offer (shadow T M W V c) rest ∙ or_from (any is_offer (shadow T M W V c)) (any is_offer rest) f.unoffered r.unoffered;
+    unoffered = any_append is_offer (shadow T M W V c) rest ∙ or_from (list_any is_offer (shadow T M W V c)) (list_any is_offer rest) f.unoffered r.unoffered;
     whole = subst (Alike T M 0 (after T (next T W c) cs)) (sym (after-append (closed T M) V (shadow T M W V c) rest)) r.whole;
     each = ap suc r.each;
     later = at_least;
@@ -280,7 +280,7 @@ module _ (T : Lists) (M : Marking) (tested : test_refused T M ≡ None) (obeys :
       bounded (suc i) (suc-le-suc h) = omega (arith, f.few, r.bound i h)
 
   runs : (W V : World) (n : ℕ) (cs : List Step) → Alike T M 0 W V → Run W V n cs (shadow_run T M W V cs) (shadow_points T M W V n cs)
-  unfolding shadow_run shadow_points AllTaken any
+  unfolding shadow_run shadow_points AllTaken
   runs W V n [] a = record {
     taken = tt;
     unoffered = refl;

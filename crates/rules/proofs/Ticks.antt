@@ -2,7 +2,7 @@
 use Rattle.std.proofs.Common.{◌≡◌, ℕ, zero, suc, ◌+◌, ◌-◌, ◌*◌, ◌<◌, ◌≤◌, min, Bool, true, false, cond, not, ◌&&◌, List, [], ◌∷◌, ◌++◌, map, length, get_or, take, drop, set, is_some, Some, None, sym, refl, ap, ◌∙◌, subst, inl, inr, ⊎_elim, suc-le-suc, add-zero, add-suc, zero-add, arith}
 use Rattle.std.proofs.lemmas.List.{get_or-set_same, get_or-set_other, length-set, length-append, length-map, length-take, length-take-le, length-drop, get_or-take, get_or-map, get_or_append_left, get_or_default}
 use Rattle.std.proofs.lemmas.Bool.{cases_Bool, cases_eq, cases_lt, both_ways, and_parts, and_from, not-true, cond-true, or_from}
-use Rattle.std.specs.List.{range_with_len, flat_map, filter}
+use Rattle.std.specs.List.{range_with_len, flat_map, filter, list_any}
 use Rattle.marks.specs.Instances.{process_at}
 use Rattle.marks.specs.Rules.{Marking}
 use Rattle.rules.proofs.Calls.{state-passes}
@@ -19,7 +19,6 @@ use Rattle.rules.specs.Steps.{no_message, rests, restless, lower, lowered, ticke
 use Rattle.rules.specs.declared.step.Message.{Message}
 use Rattle.rules.specs.declared.step.Step.{Step}
 use Rattle.rules.specs.declared.step.Step.TheVariants.{Move, Tick}
-use Rattle.table.specs.Expressions.{any}
 use Rattle.table.specs.Lists.{Lists}
 use Rattle.table.specs.declared.record.Timer.{Timer}
 use Rattle.table.specs.declared.record.Timer.TheVariants.{Off, On}
@@ -94,12 +93,12 @@ module _ (T : Lists) (M : Marking) (tested : test_refused T M ≡ None) where
   }
 
   module _ (W : World) (resting : (p : ℕ) → p < length T.processes → rests T p (at W p) ≡ true) where
-    rest-parts : (p : ℕ) → p < length T.processes → (waiting T p (at W p).location ≡ true) × ((no_message (at W p).queue ≡ true) × (any due (take (process_at T p).timers (at W p).timers) ≡ false))
+    rest-parts : (p : ℕ) → p < length T.processes → (waiting T p (at W p).location ≡ true) × ((no_message (at W p).queue ≡ true) × (list_any due (take (process_at T p).timers (at W p).timers) ≡ false))
     unfolding rests
     rest-parts p l =
-        let x = and_parts (waiting T p (at W p).location) (no_message (at W p).queue && not (any due (take (process_at T p).timers (at W p).timers))) (resting p l) in
-        let y = and_parts (no_message (at W p).queue) (not (any due (take (process_at T p).timers (at W p).timers))) x.1 in
-        (x.0, (y.0, not-true (any due (take (process_at T p).timers (at W p).timers)) y.1))
+        let x = and_parts (waiting T p (at W p).location) (no_message (at W p).queue && not (list_any due (take (process_at T p).timers (at W p).timers))) (resting p l) in
+        let y = and_parts (no_message (at W p).queue) (not (list_any due (take (process_at T p).timers (at W p).timers))) x.1 in
+        (x.0, (y.0, not-true (list_any due (take (process_at T p).timers (at W p).timers)) y.1))
 
     open-calm : (p n : ℕ) → p < length T.processes → n < (process_at T p).timers → length (at W p).timers ≡ 8 → due (get_or (at W p).timers n Off) ≡ false
     open-calm p n l h e =
@@ -154,12 +153,12 @@ module _ (T : Lists) (M : Marking) (tested : test_refused T M ≡ None) where
       pub calm : (n : ℕ) → n < (process_at (closed T M) p).timers → due (get_or (at (after (closed T M) V steps) p).timers n Off) ≡ false
       pub others : (q : ℕ) → (q ≡ p → ⊥) → at (after (closed T M) V steps) q ≡ at V q
       pub few : length steps ≤ most
-      pub unoffered : any is_offer steps ≡ false
+      pub unoffered : list_any is_offer steps ≡ false
 
     module _ (p : ℕ) (l : p < length T.processes) (V₀ : World) where
       -- one rearm more, in front
       rearm-first : (i m : ℕ) (V : World) (rest : List Step) → i < (process_at (closed T M) p).timers → Alike T M 1 W V → (at V p).location ≡ (at V₀ p).location → due (get_or (at V p).timers i Off) ≡ true → (Alike T M 1 W (put V p (retimed i (On 1) (at V p))) → Rearmed p (put V p (retimed i (On 1) (at V p))) rest m) → Rearmed p V (Move (number_of T M (rearm p (at V₀ p).location i)) ∷ rest) (suc m)
-      unfolding AllTaken any
+      unfolding AllTaken
       rearm-first i m V rest h a e d more =
           let t = a.twin p l in
           let x = stands-in p i (at V p) l t h d in
@@ -179,7 +178,7 @@ module _ (T : Lists) (M : Marking) (tested : test_refused T M ≡ None) where
           })
 
       inner : (i m : ℕ) → i + m ≡ (process_at (closed T M) p).timers → (V : World) → Alike T M 1 W V → (at V p).location ≡ (at V₀ p).location → ((n : ℕ) → i ≤ n → get_or (at V p).timers n Off ≡ get_or (at V₀ p).timers n Off) → ((n : ℕ) → n < i → due (get_or (at V p).timers n Off) ≡ false) → Rearmed p V (flat_map (rearm_of T M V₀ p) (range_with_len i m)) m
-      unfolding AllTaken any
+      unfolding AllTaken
       inner i zero s V a e later done = record {
         taken = tt;
         alike = a;
@@ -223,10 +222,10 @@ module _ (T : Lists) (M : Marking) (tested : test_refused T M ≡ None) where
       pub alike : Alike T M 1 W (after (closed T M) V steps)
       pub calm : (p n : ℕ) → p < length T.processes → n < (process_at (closed T M) p).timers → due (get_or (at (after (closed T M) V steps) p).timers n Off) ≡ false
       pub few : length steps ≤ most
-      pub unoffered : any is_offer steps ≡ false
+      pub unoffered : list_any is_offer steps ≡ false
 
     outer : (V₀ : World) (i m : ℕ) → i + m ≡ length T.processes → (V : World) → Alike T M 1 W V → ((q : ℕ) → i ≤ q → at V q ≡ at V₀ q) → ((p n : ℕ) → p < i → n < (process_at (closed T M) p).timers → due (get_or (at V p).timers n Off) ≡ false) → Quieted V (flat_map (rearms_of T M V₀) (range_with_len i m)) (8 * m)
-    unfolding AllTaken any
+    unfolding AllTaken
     outer V₀ i zero s V a later done = record {
       taken = tt;
       alike = a;
@@ -245,7 +244,7 @@ module _ (T : Lists) (M : Marking) (tested : test_refused T M ≡ None) where
           alike = subst (Alike T M 1 W) (sym e) y.alike;
           calm = λ p n j k. ap (λ w. due (get_or (at w p).timers n Off)) e ∙ y.calm p n j k;
           few = omega (arith, length-append (rearms_of T M V₀ i) (flat_map (rearms_of T M V₀) (range_with_len (i + 1) m)), x.few, y.few, few-closed i l);
-          unoffered = any_append is_offer (rearms_of T M V₀ i) (flat_map (rearms_of T M V₀) (range_with_len (i + 1) m)) ∙ or_from (any is_offer (rearms_of T M V₀ i)) (any is_offer (flat_map (rearms_of T M V₀) (range_with_len (i + 1) m))) x.unoffered y.unoffered;
+          unoffered = any_append is_offer (rearms_of T M V₀ i) (flat_map (rearms_of T M V₀) (range_with_len (i + 1) m)) ∙ or_from (list_any is_offer (rearms_of T M V₀ i)) (list_any is_offer (flat_map (rearms_of T M V₀) (range_with_len (i + 1) m))) x.unoffered y.unoffered;
         }
 
     pub quieted : (V : World) → Alike T M 0 W V → Quieted V (rearms T M V) (8 * length T.processes)
@@ -266,9 +265,9 @@ module _ (T : Lists) (M : Marking) (tested : test_refused T M ≡ None) where
         let x = rest-parts p l in
         let k = (process_at (closed T M) p).timers in
         let len = length-take-le (process_at (closed T M) p).timers (at V p).timers (omega (arith, few-closed p l, t.closed.timers)) in
-        and_from (waiting (closed T M) p (at V p).location) (no_message (at V p).queue && not (any due (take (process_at (closed T M) p).timers (at V p).timers)))
+        and_from (waiting (closed T M) p (at V p).location) (no_message (at V p).queue && not (list_any due (take (process_at (closed T M) p).timers (at V p).timers)))
         (waiting-closed T M tested p (at V p).location ∙ ap (waiting T p) t.location ∙ x.0)
-        (and_from (no_message (at V p).queue) (not (any due (take (process_at (closed T M) p).timers (at V p).timers))) (emptied (at W p).queue (at V p).queue x.1.0 t.queue)
+        (and_from (no_message (at V p).queue) (not (list_any due (take (process_at (closed T M) p).timers (at V p).timers))) (emptied (at W p).queue (at V p).queue x.1.0 t.queue)
         (ap not
         (in-none due (take (process_at (closed T M) p).timers (at V p).timers)
         (in_all (λ z. due z ≡ false) (take (process_at (closed T M) p).timers (at V p).timers)
@@ -331,10 +330,10 @@ module _ (T : Lists) (M : Marking) (tested : test_refused T M ≡ None) where
       pub taken : AllTaken (closed T M) V (rearms T M V ++ Tick ∷ [])
       pub alike : Alike T M 0 (effect T W Tick) (after (closed T M) V (rearms T M V ++ Tick ∷ []))
       pub few : length (rearms T M V ++ Tick ∷ []) ≤ 1 + 8 * length T.processes
-      pub unoffered : any is_offer (rearms T M V ++ Tick ∷ []) ≡ false
+      pub unoffered : list_any is_offer (rearms T M V ++ Tick ∷ []) ≡ false
 
     pub tick-taken : (V : World) → Alike T M 0 W V → Ticked V
-    unfolding AllTaken any
+    unfolding AllTaken
     tick-taken V a =
         let x = quieted V a in
         let V₁ = after (closed T M) V (rearms T M V) in
@@ -344,5 +343,5 @@ module _ (T : Lists) (M : Marking) (tested : test_refused T M ≡ None) where
           taken = taken-append (closed T M) V (rearms T M V) (Tick ∷ []) x.taken (y.0, tt);
           alike = subst (Alike T M 0 (effect T W Tick)) (sym (e ∙ y.1)) (tick-alike (after (closed T M) V (rearms T M V)) x.alike);
           few = omega (arith, length-append (rearms T M V) (Tick ∷ []), x.few);
-          unoffered = any_append is_offer (rearms T M V) (Tick ∷ []) ∙ or_from (any is_offer (rearms T M V)) (any is_offer (Tick ∷ [])) x.unoffered refl;
+          unoffered = any_append is_offer (rearms T M V) (Tick ∷ []) ∙ or_from (list_any is_offer (rearms T M V)) (list_any is_offer (Tick ∷ [])) x.unoffered refl;
         }

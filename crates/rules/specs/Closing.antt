@@ -19,7 +19,7 @@
 --   test_refused T M     why the test refuses: the examination, 13, 14
 --   closed_by T M        what closing means: the closed table, or where the test refuses the table as it is
 use Rattle.std.specs.Prelude.{ℕ, ◌+◌, Bool, false, cond, ◌&&◌, List, [], ◌∷◌, ◌++◌, map, length, is_some, Some, None, Option, ◌==◌, nat_le, nat_lt}
-use Rattle.std.specs.List.{range_with_len, flat_map}
+use Rattle.std.specs.List.{range_with_len, flat_map, list_any}
 use Rattle.std.specs.Option.{option_or, option_map}
 use Rattle.marks.specs.Instances.{process_at}
 use Rattle.marks.specs.Rules.{Marking, marked, class_at}
@@ -31,7 +31,6 @@ use Rattle.rules.specs.States.{padded, is_inbound, is_outbound, is_input, waitin
 use Rattle.rules.specs.Steps.{is_expression}
 use Rattle.table.specs.Edges.{absent}
 use Rattle.table.specs.Examination.{first_from, some, examined}
-use Rattle.table.specs.Expressions.{any}
 use Rattle.table.specs.Lists.{Lists, Proc}
 use Rattle.table.specs.Records.{kind_of, class_of, mode_of}
 use Rattle.table.specs.declared.record.Edge.{Edge}
@@ -48,7 +47,7 @@ abbrev pub invites : Lists → Edge → Bool
 invites T e = is_input (kind_of e.kind) && is_inbound (class_at T e.first)
 
 unfoldable pub chaotic : Lists → ℕ → Bool
-chaotic T p = any (λ e. (e.process == p) && invites T e) T.edges
+chaotic T p = list_any (λ e. (e.process == p) && invites T e) T.edges
 
 -- the chaos timer comes right behind the process's own
 abbrev pub with_chaos : Proc → Proc

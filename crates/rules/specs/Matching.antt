@@ -21,7 +21,7 @@
 --   StandsIn T M         whatever calls are made of the open table, that closed run matches them
 --   Verdict T M          what holds of all that closed runs can tell holds of all that open runs tell
 use Rattle.std.specs.Prelude.{◌≡◌, ℕ, suc, ◌+◌, ◌*◌, ◌<◌, ◌≤◌, Bool, true, false, cond, ◌&&◌, List, [], ◌∷◌, ◌++◌, map, length, take, ℤ, pos, Some, None, fold, Option, ◌==◌, slice_index, slice_index_or}
-use Rattle.std.specs.List.{range_with_len, flat_map, filter}
+use Rattle.std.specs.List.{range_with_len, flat_map, filter, list_any}
 use Rattle.marks.specs.Instances.{process_at}
 use Rattle.marks.specs.Rules.{Marking, class_at, signal_marked}
 use Rattle.rules.specs.Closing.{closed, added, rearm, timeout}
@@ -30,7 +30,6 @@ use Rattle.rules.specs.Steps.{accepts, next}
 use Rattle.rules.specs.declared.step.Message.{Message}
 use Rattle.rules.specs.declared.step.Step.{Step}
 use Rattle.rules.specs.declared.step.Step.TheVariants.{Offer, Move, Discard, Expire, Tick}
-use Rattle.table.specs.Expressions.{any}
 use Rattle.table.specs.Lists.{Lists}
 use Rattle.table.specs.declared.record.Edge.{Edge}
 use Rattle.table.specs.declared.record.Span.{Span}
@@ -104,7 +103,7 @@ AllTaken T W (c ∷ cs) = (accepts T W c ≡ true) × AllTaken T (next T W c) cs
 
 pub record ClosedRun (C : Lists) (room : ℕ) (run : List Step) : Type 0 where
   pub accepted : AllTaken C (started C room) run
-  pub unoffered : any is_offer run ≡ false
+  pub unoffered : list_any is_offer run ≡ false
 
 pub record Matches (T : Lists) (M : Marking) (C : Lists) (room : ℕ) (cs : List Step) (run : List Step) (points : List ℕ) : Type 0 where
   pub closed_run : ClosedRun C room run

@@ -35,7 +35,7 @@ use Rattle.rules.specs.declared.step.Step.{Step}
 use Rattle.rules.specs.declared.step.Step.TheVariants.{Offer, Move, Discard, Expire, Tick}
 use Rattle.table.specs.Edges.{edge_fault}
 use Rattle.table.specs.Examination.{first_at, some, limits_refused}
-use Rattle.table.specs.Expressions.{any}
+use Rattle.std.specs.List.{list_any}
 use Rattle.table.specs.Lists.{Lists}
 use Rattle.table.specs.Records.{kind_of, mode_of}
 use Rattle.table.specs.declared.record.Edge.{Edge}
@@ -153,7 +153,7 @@ expires T W p n =
 
 unfoldable pub rests : Lists → ℕ → Running → Bool
 rests T p r =
-    waiting T p r.location && (no_message r.queue && not (any due (take (process_at T p).timers r.timers)))
+    waiting T p r.location && (no_message r.queue && not (list_any due (take (process_at T p).timers r.timers)))
 
 -- refusals
 

@@ -7,7 +7,8 @@ use Rattle.marks.specs.Words.{bit, word_at, marking}
 use Rattle.marks.specs.declared.marks.Marks.{Marks}
 use Rattle.rules.proofs.Lists.{counting-in, any-in, in-any}
 use Rattle.survey.specs.Surveys.{hits}
-use Rattle.table.specs.Expressions.{part, any, names, reads, mentions}
+use Rattle.table.specs.Expressions.{part, names, reads, mentions}
+use Rattle.std.specs.List.{list_any}
 use Rattle.table.specs.Lists.{Lists}
 use Rattle.table.specs.declared.record.Edge.{Edge}
 use Rattle.table.specs.declared.record.Span.{Span}
@@ -36,10 +37,10 @@ module _ (m : Marks) (e : Edge) where
           let a = and_parts (eqb t.operation 1) false k in
           absurd (both_ways false refl a.1)
 
-  pub marked-hits : (T : Lists) (s : Span) → marked T (marking m) e s ≡ any (hits (marking m) e) (part T.terms s)
+  pub marked-hits : (T : Lists) (s : Span) → marked T (marking m) e s ≡ list_any (hits (marking m) e) (part T.terms s)
   unfolding marked indices
   marked-hits T s =
-      both_imply (any (λ v. (marking m).variable e.process e.from v && mentions (part T.terms s) v) indices) (any (hits (marking m) e) (part T.terms s))
+      both_imply (list_any (λ v. (marking m).variable e.process e.from v && mentions (part T.terms s) v) indices) (list_any (hits (marking m) e) (part T.terms s))
       (λ h.
       let a = in-any (λ v. (marking m).variable e.process e.from v && mentions (part T.terms s) v) indices h in
       let b = and_parts ((marking m).variable e.process e.from a.0) (mentions (part T.terms s) a.0) a.1.1 in

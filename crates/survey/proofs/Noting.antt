@@ -4,7 +4,7 @@ use Rattle.std.proofs.lemmas.List.{get_or-set_same, get_or-set_other, take_all}
 use Rattle.std.proofs.Math.Bool.{or-false, or-true}
 use Rattle.std.proofs.lemmas.Bool.{lt-ltb, le-ltb, ltb-true, cases_eq, cases_lt, eq-eqb, ne_eqb, and_from, and_left, and_right, cond-true, cond-false}
 use Rattle.std.proofs.lemmas.Bool.Decides.{nat_tests}
-use Rattle.std.specs.List.{slice_get}
+use Rattle.std.specs.List.{slice_get, list_any}
 use Rattle.examination.proofs.Raised.{any_push, take-some, take_none}
 use Rattle.marks.proofs.Bitwise.{bit-or, bit-pow, bit-zero}
 use Rattle.marks.specs.Rules.{Marking}
@@ -14,7 +14,6 @@ use Rattle.rules.specs.States.{handles, watches}
 use Rattle.survey.specs.Surveys.{nowhere, spot_at, chaotic_at, turned, noted_spot, noted_spots, noted_chaos, Surveyed}
 use Rattle.survey.specs.declared.spots.Spot.{Spot}
 use Rattle.table.specs.Examination.{acts, leaves}
-use Rattle.table.specs.Expressions.{any}
 use Rattle.table.specs.Lists.{Lists}
 use Rattle.table.specs.Records.{kind_of}
 use Rattle.table.specs.declared.record.Edge.{Edge}
@@ -99,9 +98,9 @@ module _ (f : Edge → Bool) (g : Spot → Bool) (b : Bool) (e : Edge) (grows : 
       by (inr q) w =
           ap g (noted-there b e ss p l hp hl (λ z _. q z)) ∙ sym (or-false (g (spot_at ss p l))) ∙ ap (λ x. g (spot_at ss p l) || (x && f e)) (sym (and_left (eqb e.process p) (eqb e.from l) (ne_eqb e.process p q)))
 
-  fact-more : (ss : List Spot) (es : List Edge) (k p l : ℕ) → length ss ≡ 128 → p < 8 → l < 16 → slice_get es k ≡ Some e → g (spot_at ss p l) ≡ any (leaves p l f) (take k es) → g (spot_at (noted_spots b e ss) p l) ≡ any (leaves p l f) (take (k + 1) es)
+  fact-more : (ss : List Spot) (es : List Edge) (k p l : ℕ) → length ss ≡ 128 → p < 8 → l < 16 → slice_get es k ≡ Some e → g (spot_at ss p l) ≡ list_any (leaves p l f) (take k es) → g (spot_at (noted_spots b e ss) p l) ≡ list_any (leaves p l f) (take (k + 1) es)
   fact-more ss es k p l n hp hl h so =
-      fact-noted ss p l n hp hl ∙ ap (λ x. x || leaves p l f e) so ∙ sym (any_push (leaves p l f) (take k es) e) ∙ sym (ap (any (leaves p l f)) (take-some es k e h))
+      fact-noted ss p l n hp hl ∙ ap (λ x. x || leaves p l f e) so ∙ sym (any_push (leaves p l f) (take k es) e) ∙ sym (ap (list_any (leaves p l f)) (take-some es k e h))
 
 handled-grows : (n : ℕ) → n < 8 → (b : Bool) (e : Edge) (s : Spot) → bit (noted_spot b e s).handled n ≡ (bit s.handled n || handles n e)
 handled-grows n l b e s = bit-or s.handled (turned e) n ∙ ap (λ x. bit s.handled n || x) (by (watches (kind_of e.kind)) (cases_lt e.first 8))
@@ -114,13 +113,13 @@ handled-grows n l b e s = bit-or s.handled (turned e) n ∙ ap (λ x. bit s.hand
     by true (inr h) = ap (λ x. bit (cond x (2 ^ e.first) 0) n) (le-ltb e.first 8 h) ∙ bit-zero n ∙ sym (ne_eqb e.first n (λ z. omega arith))
     by false h = bit-zero n
 
-chaos-more : (T : Lists) (e : Edge) (cs : List Bool) (es : List Edge) (k p : ℕ) → length cs ≡ 8 → p < 8 → slice_get es k ≡ Some e → chaotic_at cs p ≡ any (λ x. eqb x.process p && invites T x) (take k es) → chaotic_at (noted_chaos (invites T e) e cs) p ≡ any (λ x. eqb x.process p && invites T x) (take (k + 1) es)
+chaos-more : (T : Lists) (e : Edge) (cs : List Bool) (es : List Edge) (k p : ℕ) → length cs ≡ 8 → p < 8 → slice_get es k ≡ Some e → chaotic_at cs p ≡ list_any (λ x. eqb x.process p && invites T x) (take k es) → chaotic_at (noted_chaos (invites T e) e cs) p ≡ list_any (λ x. eqb x.process p && invites T x) (take (k + 1) es)
 unfolding chaotic_at noted_chaos
 chaos-more T e cs es k p n hp h so =
     by (invites T e) (cases_eq e.process p)
     ∙ ap (λ x. x || (eqb e.process p && invites T e)) so
     ∙ sym (any_push (λ x. eqb x.process p && invites T x) (take k es) e)
-    ∙ sym (ap (any (λ x. eqb x.process p && invites T x)) (take-some es k e h))
+    ∙ sym (ap (list_any (λ x. eqb x.process p && invites T x)) (take-some es k e h))
   where
     by : (i : Bool) → (e.process ≡ p) ⊎ (e.process ≡ p → ⊥) → (ltb p 8 && get_or (cond (i && ltb e.process 8) (set cs e.process true) cs) p false) ≡ ((ltb p 8 && get_or cs p false) || (eqb e.process p && i))
     by true (inl q) =
@@ -151,7 +150,6 @@ pub surveyed-none : (T : Lists) (M : Marking) (es : List Edge) (k : ℕ) (ss : L
 surveyed-none T M es k ss cs h s = subst (λ xs. Surveyed T M xs ss cs) (sym (take_none es k h)) s
 
 pub surveyed-blank : (T : Lists) (M : Marking) (ss : List Spot) (cs : List Bool) → ((p l : ℕ) → spot_at ss p l ≡ nowhere) → ((p : ℕ) → chaotic_at cs p ≡ false) → Surveyed T M [] ss cs
-unfolding any
 surveyed-blank T M ss cs a b = record {
   acting = λ p l hp hl. ap (λ s. s.acting) (a p l);
   guards = λ p l hp hl. ap (λ s. s.guard_marked) (a p l);

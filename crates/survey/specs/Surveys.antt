@@ -15,7 +15,7 @@ use Rattle.rules.specs.Closing.{invites, marked_guard}
 use Rattle.rules.specs.States.{handles, watches}
 use Rattle.survey.specs.declared.spots.Spot.{Spot}
 use Rattle.table.specs.Examination.{acts, leaves}
-use Rattle.table.specs.Expressions.{any}
+use Rattle.std.specs.List.{list_any}
 use Rattle.table.specs.Lists.{Lists}
 use Rattle.table.specs.Records.{kind_of}
 use Rattle.table.specs.declared.record.Edge.{Edge}
@@ -55,7 +55,7 @@ unfoldable pub noted_chaos : Bool → Edge → List Bool → List Bool
 noted_chaos b e cs = cond (b && nat_lt e.process 8) (slice_set cs e.process true) cs
 
 pub record Surveyed (T : Lists) (M : Marking) (es : List Edge) (ss : List Spot) (cs : List Bool) : Type 0 where
-  pub acting : (p l : ℕ) → p < 8 → l < 16 → (spot_at ss p l).acting ≡ any (leaves p l acts) es
-  pub guards : (p l : ℕ) → p < 8 → l < 16 → (spot_at ss p l).guard_marked ≡ any (leaves p l (marked_guard T M)) es
-  pub handled : (p l n : ℕ) → p < 8 → l < 16 → n < 8 → bit (spot_at ss p l).handled n ≡ any (leaves p l (handles n)) es
-  pub chaos : (p : ℕ) → p < 8 → chaotic_at cs p ≡ any (λ e. (e.process == p) && invites T e) es
+  pub acting : (p l : ℕ) → p < 8 → l < 16 → (spot_at ss p l).acting ≡ list_any (leaves p l acts) es
+  pub guards : (p l : ℕ) → p < 8 → l < 16 → (spot_at ss p l).guard_marked ≡ list_any (leaves p l (marked_guard T M)) es
+  pub handled : (p l n : ℕ) → p < 8 → l < 16 → n < 8 → bit (spot_at ss p l).handled n ≡ list_any (leaves p l (handles n)) es
+  pub chaos : (p : ℕ) → p < 8 → chaotic_at cs p ≡ list_any (λ e. (e.process == p) && invites T e) es

@@ -14,7 +14,7 @@
 use Rattle.std.specs.Prelude.{ℕ, zero, suc, ◌+◌, Bool, true, false, cond, not, ◌&&◌, ◌||◌, List, [], ◌∷◌, length, Some, None, Option, ◌==◌, nat_le, nat_lt}
 use Rattle.std.specs.Option.{option_or, option_map}
 use Rattle.table.specs.Edges.{edge_fault}
-use Rattle.table.specs.Expressions.{any}
+use Rattle.std.specs.List.{list_any}
 use Rattle.table.specs.Lists.{Lists, Proc}
 use Rattle.table.specs.Records.{kind_of, class_of, mode_of}
 use Rattle.refusal.specs.Refusals.{refusal}
@@ -44,7 +44,7 @@ too_long (On n) = nat_lt 32767 n
 
 abbrev pub bad_process : Proc → Bool
 bad_process p =
-    not (nat_le 1 p.locations && nat_le p.locations 16) || (nat_lt 8 p.variables || (nat_lt 8 p.timers || (nat_le p.locations p.first || any too_long p.settings)))
+    not (nat_le 1 p.locations && nat_le p.locations 16) || (nat_lt 8 p.variables || (nat_lt 8 p.timers || (nat_le p.locations p.first || list_any too_long p.settings)))
 
 abbrev destination_bad : ℕ → Class → ℕ → Bool
 destination_bad n Class.Internal d = nat_le n d
@@ -97,7 +97,7 @@ abbrev pub frees : Edge → Bool
 frees e = freely (mode_of e.mode)
 
 abbrev pub some : Lists → (Edge → Bool) → ℕ → ℕ → Bool
-some T f p l = any (leaves p l f) T.edges
+some T f p l = list_any (leaves p l f) T.edges
 
 abbrev pub mixed : Lists → ℕ → ℕ → Bool
 mixed T p l = some T acts p l && some T waits p l

@@ -1,6 +1,5 @@
 -- Postfix expressions.
 --   part ts s         the terms that the span s takes out of the list ts
---   any f xs          some element of xs passes the test f
 --   names v z         the number z names variable v
 --   reads v t         the term t reads variable v
 --   mentions ts v     some term of ts reads variable v
@@ -9,7 +8,8 @@
 --   depth_after n t d   how many values there are after t where d were before; None where t is unfit or lacks operands
 --   formed n ts d     with d values found before, each operation of ts finds its operands and just one value remains
 --   sound n ts s      the span s lies within ts, has 1 to 16 terms, and is well formed in a process of n variables
-use Rattle.std.specs.Prelude.{ℕ, ◌+◌, ◌-◌, Bool, true, false, cond, ◌&&◌, ◌||◌, List, [], ◌∷◌, length, take, drop, ℤ, pos, negsuc, Some, None, Option, ◌==◌, nat_le, nat_lt}
+use Rattle.std.specs.Prelude.{ℕ, ◌+◌, ◌-◌, Bool, true, false, cond, ◌&&◌, List, [], ◌∷◌, length, take, drop, ℤ, pos, negsuc, Some, None, Option, ◌==◌, nat_le, nat_lt}
+use Rattle.std.specs.List.{list_any}
 use Rattle.table.specs.Records.{operation_of}
 use Rattle.table.specs.declared.record.Operation.{Operation}
 use Rattle.table.specs.declared.record.Operation.TheVariants.{Number, Variable, Sum, Difference, Equal, Less, Both, Not, Unknown}
@@ -19,10 +19,6 @@ use Rattle.table.specs.declared.record.Term.{Term}
 abbrev pub part : List Term → Span → List Term
 part ts s = take s.count (drop s.start ts)
 
-unfoldable pub any : {A : Type 0} → (A → Bool) → List A → Bool
-any f [] = false
-any f (x ∷ xs) = f x || any f xs
-
 abbrev pub names : ℕ → ℤ → Bool
 names v (pos n) = n == v
 names v (negsuc n) = false
@@ -31,7 +27,7 @@ abbrev pub reads : ℕ → Term → Bool
 reads v t = t.operation == 1 && names v t.argument
 
 abbrev pub mentions : List Term → ℕ → Bool
-mentions ts v = any (reads v) ts
+mentions ts v = list_any (reads v) ts
 
 abbrev pub operands : Operation → ℕ
 operands Number = 0

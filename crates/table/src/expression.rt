@@ -2,7 +2,8 @@
 ghost use Rattle.std.specs.Prelude.{◌≡◌, ◌+◌, ◌^◌, ◌<◌, ◌&&◌, Bool, length, nat_le};
 ghost use Rattle.table.specs.declared.record.Term.{Term};
 ghost use Rattle.table.specs.Records.{operation_of};
-ghost use Rattle.table.specs.Expressions.{part, any, mentions, reads, operands, fitting, depth_after, formed, sound};
+ghost use Rattle.table.specs.Expressions.{part, mentions, reads, operands, fitting, depth_after, formed, sound};
+ghost use Rattle.std.specs.List.{list_any};
 
 use crate::limits;
 use crate::questions::Table;
@@ -62,7 +63,7 @@ pub fn mentions<T: Table>(table: &T, span: Span, variable: u8) -> bool
 /// Whether some term of the span passes the test.
 pub fn any_term<T: Table, F: Fn(Term) -> bool>(table: &T, span: Span, test: F) -> bool
     requires { F.IsAlwaysCallable test }
-    ensures { (f : Term → Bool) → ((t : Term) (b : Bool) → F.post test t b → b ≡ f t) → result ≡ any f (part (T.lists table.now).terms span) }
+    ensures { (f : Term → Bool) → ((t : Term) (b : Bool) → F.post test t b → b ≡ f t) → result ≡ list_any f (part (T.lists table.now).terms span) }
 {
     let start = usize::from(span.start);
     for i in start..start + usize::from(span.count) {

@@ -2,7 +2,7 @@
 ghost use Rattle.std.specs.Prelude.{◌≡◌, ◌≤◌};
 ghost use Rattle.table.specs.Edges.{empty, guardable, valued};
 ghost use Rattle.table.specs.Examination.{acts, frees, bad_process, bad_signal, too_long};
-ghost use Rattle.table.specs.Expressions.{any};
+ghost use Rattle.std.specs.List.{list_any};
 ghost use Rattle.table.specs.Lists.{meant};
 
 use crate::limits;
@@ -33,7 +33,7 @@ impl Process {
 
     fn has_long_timer(&self) -> bool
         requires { self.now.timers ≤ 8 }
-        ensures { result ≡ any too_long (meant self.now).settings }
+        ensures { result ≡ list_any too_long (meant self.now).settings }
     {
         let settings = &self.settings[..usize::from(self.timers)];
         settings.iter().any(|timer| timer.is_too_long())

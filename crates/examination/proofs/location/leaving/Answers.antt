@@ -1,14 +1,13 @@
 use Rattle.std.proofs.Common.{◌≡◌, ◌+◌, ◌≤◌, Bool, true, false, List, length, take, sym, ap, ◌∙◌, subst, None, arith, rules}
 use Rattle.std.specs.Fn.{FnReturnsAt}
 use Rattle.std.proofs.lemmas.List.{take_all}
-use Rattle.table.specs.Expressions.{any}
+use Rattle.std.specs.List.{list_any, slice_get}
 use Rattle.table.specs.Examination.{leaves}
 use Rattle.examination.specs.Locations.{noted}
 use Rattle.table.proofs.Scans.{any-nil}
 use Rattle.examination.proofs.Raised.{Raised, raised-hit, raised-miss, raised-none}
 use Rattle.examination.proofs.location.leaving.Goals as goal
 use Rattle.examination.proofs.location.leaving.Goals.{in-Some+then-test, in_default, in_default-via-in-None-1, in_default-via-in-Some+else-test}
-use Rattle.std.specs.List.{slice_get}
 
 pub loop-k-init : goal.loop-k-init
 loop-k-init g c = (c.requires, λ f told p l hp hl. c.none-found.ensures p l ∙ sym (any-nil (leaves p l f)))
@@ -41,4 +40,4 @@ pub returns : goal.returns
 returns g c f told p l hp hl =
     let es = (g.T.Table.lists c.args.table.now).edges in
     let le : length es ≤ c.loop-k.k = omega arith in
-    c.loop-k.invariant.1 f told p l hp hl ∙ ap (any (leaves p l f)) (take_all c.loop-k.k es le)
+    c.loop-k.invariant.1 f told p l hp hl ∙ ap (list_any (leaves p l f)) (take_all c.loop-k.k es le)
