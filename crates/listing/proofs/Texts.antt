@@ -4,9 +4,6 @@ use Rattle.std.proofs.lemmas.List.{append-nil}
 use Rattle.listing.specs.Listing.{each_from}
 
 module _ (f : ℕ → List ℕ) where
-  pub begun : (t : List ℕ) (e : ℕ) → t ++ each_from f 0 (e - 0) ≡ t ++ each_from f 0 e
-  begun t e = let z : e - 0 ≡ e = omega arith in ap (λ n. t ++ each_from f 0 n) z
-
   next : (i e : ℕ) → i < e → each_from f i (e - i) ≡ f i ++ each_from f (i + 1) (e - (i + 1))
   unfolding each_from
   next i e lt = let z : e - i ≡ suc (e - (i + 1)) = omega arith in rw z

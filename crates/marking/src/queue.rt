@@ -20,6 +20,7 @@ impl Search {
         }
     }
 
+    #[tactic(auto, unfolding(crate::specs::Nodes::has))]
     fn has(&self, node: usize) -> bool
         requires { node < 2112 }
         ensures value { result ≡ has self.now.words node }

@@ -77,6 +77,7 @@ impl Marks {
     }
 }
 
+#[tactic(auto, using(crate::proofs::Bitwise::bit_test))]
 pub fn bit(word: u16, number: usize) -> bool
     requires { number < 16 }
     ensures value { result ≡ bit word number }

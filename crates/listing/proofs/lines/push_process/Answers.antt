@@ -1,13 +1,10 @@
 use Rattle.std.proofs.Common.{◌≡◌, ◌++◌, string_bytes, ap, ◌∙◌, append_assoc}
 use Rattle.listing.specs.Listing.{each_from, sort_text, location_text}
 use Rattle.marks.specs.declared.marks.Sort.TheVariants.{Variable, Timer}
-use Rattle.listing.proofs.Texts.{begun, grown, ended}
+use Rattle.listing.proofs.Texts.{grown, ended}
 use Rattle.marks.specs.Words.{marking}
 use Rattle.table.specs.Lists.{meant}
 use Rattle.listing.proofs.lines.push_process.Goals as goal
-
-pub loop-location-init : goal.loop-location-init
-loop-location-init c = begun (location_text (marking c.args.marks.now) (meant c.args.process.now) c.args.p) (string_bytes c.args.text.now) c.from-location-end.result
 
 pub loop-location-preserved : goal.loop-location-preserved
 loop-location-preserved c =

@@ -1,11 +1,8 @@
 use Rattle.std.proofs.Common.{◌≡◌, ◌++◌, string_bytes, ap, ◌∙◌}
 use Rattle.listing.specs.Listing.{each_from, sort_text}
-use Rattle.listing.proofs.Texts.{begun, grown, ended}
+use Rattle.listing.proofs.Texts.{grown, ended}
 use Rattle.marks.specs.Words.{marking}
 use Rattle.listing.proofs.lines.push_sort.Goals as goal
-
-pub loop-n-init : goal.loop-n-init
-loop-n-init c = begun (sort_text c.args.sort (marking c.args.marks.now) c.args.site.process c.args.site.location) (string_bytes c.args.text.now) c.from-n-end.result
 
 pub loop-n-preserved : goal.loop-n-preserved
 loop-n-preserved c =

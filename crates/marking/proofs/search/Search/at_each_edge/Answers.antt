@@ -1,7 +1,7 @@
-use Rattle.std.proofs.Common.{sym, ap, ◌∙◌, arith}
+use Rattle.std.proofs.Common.{sym, ap, ◌∙◌}
 use Rattle.marking.specs.Queue.{state}
 use Rattle.marking.proofs.Pushing.{pushes_none}
-use Rattle.marking.proofs.Scanning.{scan-some, scan-past, scan-all}
+use Rattle.marking.proofs.Scanning.{scan-some, scan-past}
 use Rattle.marking.proofs.search.Search.at_each_edge.Goals as goal
 use Rattle.marking.proofs.search.Search.at_each_edge.Goals.{in-Some, in_default}
 
@@ -22,10 +22,3 @@ loop-k-preserved g c = (
         | in_default w ↦ scan-past f T.edges c.loop-k.k s r t i (cc) (ap state w.self-is)
       ],
 )
-
-pub returns : goal.returns
-returns g c = record {
-  after = λ f reads.
-      let T = g.T.Table.lists c.args.table.now in
-      scan-all f T.edges c.loop-k.k (state c.args.self.now) (state c.loop-k.self) (c.loop-k.invariant.1 f reads) (omega arith);
-}

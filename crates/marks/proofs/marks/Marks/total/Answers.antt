@@ -7,11 +7,6 @@ use Rattle.marks.proofs.marks.Marks.total.Goals as goal
 pub loop-word-init : goal.loop-word-init
 loop-word-init c = (omega arith, sym (sum-none (λ i. set-bits (get_or c.args.self.now.words i 0))))
 
-pub overflow_add-total : goal.overflow_add-total
-overflow_add-total c =
-    let h : get_or c.args.self.now.words c.loop-word.word-index 0 < 2 ^ 16 = search rules in
-    omega (arith, ones-le 16 (get_or c.args.self.now.words c.loop-word.word-index 0) h)
-
 pub loop-word-preserved : goal.loop-word-preserved
 loop-word-preserved c =
     let ws = c.args.self.now.words in
