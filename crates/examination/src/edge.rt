@@ -3,12 +3,14 @@ ghost use Rattle.std.specs.Prelude.{◌≡◌};
 ghost use Rattle.table.specs.Edges.{missing_in, unfit_for, malformed, numbers_bad, guard_bad, value_bad, untrue_in, edge_fault};
 ghost use Rattle.table.specs.Lists.{meant};
 ghost use Rattle.table.specs.Records.{kind_of, mode_of};
-ghost use Rattle.refusal.specs.Refusals.{outcome, edge_number};
+ghost use Rattle.std.specs.List.{slice_get};
+ghost use Rattle.table.specs.Examination.{answer_at, edge_refused};
+ghost use Rattle.refusal.specs.Refusals.{outcome, edge_number, edge_refusal};
 
-use refusal::fault::EdgeFault;
+use refusal::fault::{BadEdge, EdgeFault};
 use table::expression::is_sound;
 use table::limits;
-use table::questions::{Table, process_or_blank};
+use table::questions::{Table, process_or_blank, signal_or_absent};
 use table::record::{Class, Edge, Kind, Mode, Process, Signal};
 
 /// Whether the edge may stand in the table, and if not, what is wrong with it first.
@@ -17,9 +19,7 @@ pub fn check<T: Table>(table: &T, edge: &Edge) -> Result<(), EdgeFault>
     ensures { outcome edge_number result ≡ edge_fault (T.lists table.now) edge.now }
 {
     let process = process_or_blank(table, usize::from(edge.process));
-    let signal = table
-        .signal(usize::from(edge.first))
-        .unwrap_or(Signal::ABSENT);
+    let signal = signal_or_absent(table, usize::from(edge.first));
     if is_missing(edge, &process, table.signal_count()) {
         Err(EdgeFault::Missing)
     } else if is_unfit(edge, signal) {
@@ -33,18 +33,28 @@ pub fn check<T: Table>(table: &T, edge: &Edge) -> Result<(), EdgeFault>
     }
 }
 
+/// Whether edge k may stand in its table; one that is not there may.
+pub fn check_at<T: Table>(table: &T, k: usize) -> Result<(), BadEdge>
+    ensures { outcome edge_refusal result ≡ answer_at (edge_refused (T.lists table.now)) k (slice_get (T.lists table.now).edges k) }
+{
+    let Some(edge) = table.edge(k) else {
+        return Ok(());
+    };
+    check(table, &edge).map_err(|fault| BadEdge { edge: k, fault })
+}
+
 /// Whether the edge names something that is not there, in a table of so many signals.
 fn is_missing(edge: &Edge, process: &Process, signals: usize) -> bool
     ensures { result ≡ missing_in signals (meant process.now) edge.now }
 {
     let first = edge.first;
-    let second = edge.second;
     if edge.from >= process.locations || edge.to >= process.locations {
         return true;
     }
     match edge.does() {
-        Kind::Input => usize::from(first) >= signals
-            || (second != limits::DROPPED && second >= process.variables),
+        Kind::Input => {
+            usize::from(first) >= signals || edge.stored().is_some_and(|v| v >= process.variables)
+        }
         Kind::Output => usize::from(first) >= signals,
         Kind::Assignment => first >= process.variables,
         Kind::Set | Kind::Reset | Kind::Timeout | Kind::Rearm => first >= process.timers,

@@ -25,7 +25,7 @@ impl Locations {
     pub fn has(&self, site: Site) -> bool
         ensures { result ≡ has_at self.now.flags site.process site.location }
     {
-        site.index().is_some_and(|i| self.flags[i])
+        site.pick(&self.flags, false)
     }
 
     #[tactic(auto, unfolding(crate::specs::Locations::noted))]

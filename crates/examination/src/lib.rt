@@ -9,7 +9,7 @@ ghost use Rattle.refusal.specs.Refusals.{outcome, table_refusal};
 use crate::bounds::check_limits;
 use crate::first::first_fault;
 use crate::location::check_locations;
-use refusal::fault::{BadEdge, TableFault};
+use refusal::fault::TableFault;
 use table::questions::Table;
 
 mod bounds;
@@ -31,10 +31,7 @@ pub fn examine<T: Table>(table: &T) -> Result<(), TableFault>
 fn check_edge<T: Table>(table: &T, k: usize) -> Result<(), TableFault>
     ensures { outcome table_refusal result ≡ answer_at (edge_refused (T.lists table.now)) k (slice_get (T.lists table.now).edges k) }
 {
-    let Some(edge) = table.edge(k) else {
-        return Ok(());
-    };
-    edge::check(table, &edge).map_err(|fault| TableFault::Edge(BadEdge { edge: k, fault }))
+    edge::check_at(table, k).map_err(TableFault::Edge)
 }
 
 fn check_edges<T: Table>(table: &T) -> Result<(), TableFault>

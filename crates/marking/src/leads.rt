@@ -3,7 +3,6 @@ ghost use Rattle.std.specs.Prelude.{◌≡◌};
 ghost use Rattle.marking.specs.Leads.{received, touches, fed};
 ghost use Rattle.marking.specs.Nodes.{node};
 
-use table::limits;
 use table::questions::{Table, class_of};
 use table::record::{Class, Edge, Kind};
 
@@ -22,8 +21,7 @@ pub fn received(edge: &Edge) -> Option<usize>
     ensures value { result ≡ received edge.now }
 {
     match edge.does() {
-        Kind::Input if edge.second == limits::DROPPED => None,
-        Kind::Input => Some(node_at_end(edge, edge.second.into())),
+        Kind::Input => edge.stored().map(|v| node_at_end(edge, v.into())),
         _ => None,
     }
 }
@@ -34,7 +32,7 @@ pub fn touches(edge: &Edge, bit: u8) -> bool
     ensures value { result ≡ touches edge.now bit }
 {
     match edge.does() {
-        Kind::Input => edge.second != limits::DROPPED && edge.second == bit,
+        Kind::Input => edge.stored() == Some(bit),
         Kind::Assignment => edge.first == bit,
         Kind::Set | Kind::Reset | Kind::Timeout | Kind::Rearm => 8 + u16::from(edge.first)
             == u16::from(bit),

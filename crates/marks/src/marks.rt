@@ -55,7 +55,7 @@ impl Marks {
     pub fn word(&self, site: Site) -> u16
         ensures value { result ≡ word_at self.now.words site.process site.location }
     {
-        site.index().map_or(0, |i| self.words[i])
+        site.pick(&self.words, 0)
     }
 
     /// Whether the instance of the sort with that index is marked.

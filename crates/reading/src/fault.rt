@@ -51,10 +51,8 @@ impl From<SheetFault> for Refusal {
             SheetFault::Name(bit) => (6, bit),
             SheetFault::Edge(edge) => {
                 return Refusal {
-                    number: edge.bad.fault.number(),
-                    layer: Layer::Edge,
-                    place: Place::At(edge.bad.edge),
                     sheet: Some(edge.bit),
+                    ..Refusal::from(edge.bad)
                 };
             }
         };

@@ -16,9 +16,7 @@ use examination::first::first_fault;
 use reading::fault::{EdgeAt, SheetFault};
 use reading::reader::Reader;
 use reading::records::EDGE_BITS;
-use refusal::fault::BadEdge;
 use table::limits;
-use table::questions::Table;
 
 /// All parts of a sheet.
 #[tactic(auto, unfolding(reading::specs::Formats::after, reading::specs::Layout::sheet_format))]
@@ -57,14 +55,8 @@ fn check_edge(sheet: &Sheet<'_>, k: usize) -> Result<(), EdgeAt>
     requires { k < 2 ^ 16 }
     ensures { outcome edge_at_refusal result ≡ answer_at (edge_refused_at (lists_of sheet.now) sheet.now.edges_at) k (slice_get (lists_of sheet.now).edges k) }
 {
-    let Some(edge) = sheet.edge(k) else {
-        return Ok(());
-    };
     let bit = sheet.edges_at as usize + EDGE_BITS * k;
-    edge::check(sheet, &edge).map_err(|fault| EdgeAt {
-        bad: BadEdge { edge: k, fault },
-        bit,
-    })
+    edge::check_at(sheet, k).map_err(|bad| EdgeAt { bad, bit })
 }
 
 /// The first edge that may not stand in the sheet's table.

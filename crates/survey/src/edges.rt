@@ -28,7 +28,7 @@ impl Survey {
     pub fn spot(&self, site: Site) -> Spot
         ensures { result ≡ spot_at self.now.spots site.process site.location }
     {
-        site.index().map_or(Spot::default(), |i| self.spots[i])
+        site.pick(&self.spots, Spot::default())
     }
 
     /// Whether the process gains a chaos timer.

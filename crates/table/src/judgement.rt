@@ -1,5 +1,5 @@
 //! What can be said of one record alone.
-ghost use Rattle.std.specs.Prelude.{◌≡◌, ◌≤◌};
+ghost use Rattle.std.specs.Prelude.{◌≡◌, ◌≤◌, if◌then◌else◌, Some, None, ◌==◌};
 ghost use Rattle.table.specs.Edges.{empty, guardable, valued};
 ghost use Rattle.table.specs.Examination.{acts, frees, bad_process, bad_signal, too_long};
 ghost use Rattle.std.specs.List.{list_any};
@@ -61,6 +61,13 @@ impl Edge {
             self.does(),
             Kind::Output | Kind::Assignment | Kind::Set | Kind::Reset | Kind::Skip
         )
+    }
+
+    /// The variable that the edge stores if it is an input; none if its value is dropped.
+    pub fn stored(&self) -> Option<u8>
+        ensures { result ≡ (if self.now.second == 15 then None else Some self.now.second) }
+    {
+        (self.second != limits::DROPPED).then_some(self.second)
     }
 
     pub fn is_free(&self) -> bool

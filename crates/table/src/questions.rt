@@ -60,12 +60,16 @@ pub fn process_or_blank<T: Table>(table: &T, p: usize) -> Process
     process
 }
 
+/// Signal s, or an absent one where there is none.
+pub fn signal_or_absent<T: Table>(table: &T, s: usize) -> Signal
+    ensures { result ≡ slice_index_or (T.lists table.now).signals s absent }
+{
+    table.signal(s).unwrap_or(Signal::ABSENT)
+}
+
 /// The class of a signal, absent where there is none.
 pub fn class_of<T: Table>(table: &T, signal: u8) -> Class
     ensures { result ≡ class_of (slice_index_or (T.lists table.now).signals signal absent).class }
 {
-    table
-        .signal(usize::from(signal))
-        .unwrap_or(Signal::ABSENT)
-        .is()
+    signal_or_absent(table, usize::from(signal)).is()
 }

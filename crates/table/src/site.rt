@@ -1,5 +1,5 @@
 //! Locations, each by its process.
-ghost use Rattle.std.specs.Prelude.{◌≡◌, ◌<◌, IfSome};
+ghost use Rattle.std.specs.Prelude.{◌≡◌, ◌+◌, ◌*◌, ◌<◌, ◌&&◌, IfSome, if◌then◌else◌, nat_lt, slice_index_or};
 ghost use Rattle.table.specs.Sites.{index_of};
 
 use crate::limits;
@@ -24,6 +24,14 @@ impl Site {
         } else {
             None
         }
+    }
+
+    /// What stands at its place among these; `nothing` where there is none.
+    pub fn pick<T: Copy>(self, items: &[T], nothing: T) -> T
+        ensures { result ≡ (if nat_lt self.process 8 && nat_lt self.location 16 then slice_index_or items.now (16 * self.process + self.location) nothing else nothing) }
+    {
+        let found = self.index().and_then(|i| items.get(i));
+        found.copied().unwrap_or(nothing)
     }
 }
 
