@@ -1,5 +1,5 @@
 -- The first location that a test hits: as a search finds it, and of tests that agree.
-use Rattle.std.proofs.Common.{◌≡◌, ℕ, zero, suc, ◌+◌, ◌-◌, ◌<◌, ◌≤◌, Bool, true, false, cond, List, [], ◌∷◌, map, Some, None, Option, refl, ap, ◌∙◌, arith}
+use Rattle.std.proofs.Common.{◌≡◌, ℕ, zero, suc, ◌+◌, ◌<◌, Bool, true, false, cond, List, [], ◌∷◌, map, Some, None, Option, refl, ap, ◌∙◌, arith}
 use Rattle.std.specs.List.{slice_get, find, range_with_len}
 use Rattle.std.specs.Option.{option_or, option_map}
 use Rattle.table.specs.Examination.{first_at, first_from, first_location, location_in}
@@ -9,20 +9,6 @@ use Rattle.examination.specs.Locations.{pair}
 
 abbrev pub at : ℕ → ℕ → Site
 at p l = record { process = p; location = l }
-
--- as a loop finds it
-module _ (h : ℕ → Bool) (i n : ℕ) where
-  pub from_end : n ≤ i → first_from h i (n - i) ≡ None
-  unfolding first_from
-  from_end le = let z : n - i ≡ 0 = omega arith in rw z
-
-  pub from-hit : i < n → h i ≡ true → first_from h i (n - i) ≡ Some i
-  unfolding first_from
-  from-hit lt t = let z : n - i ≡ suc (n - (i + 1)) = omega arith in rw (z, t)
-
-  pub from-miss : i < n → h i ≡ false → first_from h i (n - i) ≡ first_from h (i + 1) (n - (i + 1))
-  unfolding first_from
-  from-miss lt t = let z : n - i ≡ suc (n - (i + 1)) = omega arith in rw (z, t)
 
 -- among the locations of process p in turn
 pub found_in : (h : ℕ → ℕ → Bool) (p n i : ℕ) → option_map pair (find (λ s. h s.process s.location) (map (λ l. at p l) (range_with_len i n))) ≡ option_map (λ l. (p, l)) (first_from (h p) i n)

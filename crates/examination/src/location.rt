@@ -4,7 +4,7 @@ ghost use Rattle.std.specs.Fn.{FnReturnsAt};
 ghost use Rattle.std.specs.List.{slice_get, list_any};
 ghost use Rattle.std.specs.Option.{option_map};
 ghost use Rattle.examination.specs.Locations.{has_at, pair};
-ghost use Rattle.table.specs.Examination.{leaves, answer_at, first_from, location_in, first_location, limits_refused, locations_refused};
+ghost use Rattle.table.specs.Examination.{leaves, answer_at, location_in, first_location, limits_refused, locations_refused};
 ghost use Rattle.table.specs.declared.record.Edge.{Edge};
 ghost use Rattle.table.specs.declared.site.Site.{Site};
 ghost use Rattle.refusal.specs.Refusals.{outcome, table_refusal};

@@ -1,7 +1,7 @@
 //! The lines of a listing.
 ghost use Rattle.std.specs.Prelude.{◌≡◌, ◌++◌, IfOk, string_bytes, OnOk};
-ghost use Rattle.listing.specs.Listing.{each_from, instance_text, sort_text, process_text, count_text, listing_text};
-ghost use Rattle.marks.specs.Words.{is_marked, letter, marking};
+ghost use Rattle.listing.specs.Listing.{each_from, sort_text, process_text, count_text, listing_text};
+ghost use Rattle.marks.specs.Words.{marking};
 ghost use Rattle.table.specs.Lists.{meant};
 
 use marks::instances;

@@ -1,5 +1,5 @@
 //! Adding loops, by process, waiting location and timer.
-ghost use Rattle.std.specs.Prelude.{◌≡◌, ◌+◌, ◌*◌, ◌<◌, ◌≤◌, min, [], ◌∷◌, ◌++◌, length};
+ghost use Rattle.std.specs.Prelude.{◌≡◌, ◌+◌, ◌<◌, ◌≤◌, min, [], ◌∷◌, ◌++◌, length};
 ghost use Rattle.arrayvec.specs.ArrayVec.{array_vec_len};
 ghost use Rattle.std.specs.List.{slice_get};
 ghost use Rattle.loops.specs.Rows.{turn_edge, edges_of, timer_edges, spot_timers, at_spot, shape, of_process, added_by};

@@ -1,6 +1,6 @@
 -- What one more of a list gives, joined to what the elements before it give.
-use Rattle.std.proofs.Common.{◌≡◌, ℕ, zero, suc, ◌+◌, ◌≤◌, List, [], ◌∷◌, ◌++◌, length, take, Some, None, sym, refl, ap, ◌∙◌, arith}
-use Rattle.std.proofs.lemmas.List.{append-nil, append_assoc, take_all}
+use Rattle.std.proofs.Common.{◌≡◌, ℕ, zero, suc, ◌+◌, List, [], ◌∷◌, ◌++◌, take, Some, None, sym, refl, ap, ◌∙◌, arith}
+use Rattle.std.proofs.lemmas.List.{append-nil, append_assoc}
 use Rattle.std.specs.List.{slice_get, flat_map}
 
 -- one more of a list, as a question at its place answers
@@ -18,6 +18,3 @@ joined-past f (y ∷ ys) zero e = let z : ◌≡◌ {A = ℕ} 0 1 = cc in absurd
 joined-past f (y ∷ ys) (suc k) e =
     let n : suc k + 1 ≡ suc (k + 1) = omega arith in
     ap (λ m. flat_map f (take m (y ∷ ys))) n ∙ ap (λ zs. f y ++ zs) (joined-past f ys k e)
-
-pub joined-all : {A : Type 0} (f : A → List ℕ) (xs : List A) (k : ℕ) → length xs ≤ k → flat_map f (take k xs) ≡ flat_map f xs
-joined-all f xs k h = ap (flat_map f) (take_all k xs h)

@@ -1,8 +1,8 @@
 -- A loop over a list that pushes what each element leads to.
-use Rattle.std.proofs.Common.{◌≡◌, ℕ, ◌+◌, ◌≤◌, List, length, take, Some, None, sym, ap, ◌∙◌}
+use Rattle.std.proofs.Common.{◌≡◌, ℕ, ◌+◌, List, take, Some, None, sym, ap, ◌∙◌}
 use Rattle.std.specs.List.{slice_get, flat_map}
 use Rattle.marking.specs.Queue.{State, pushes}
-use Rattle.marking.proofs.Places.{joined-some, joined-past, joined-all}
+use Rattle.marking.proofs.Places.{joined-some, joined-past}
 use Rattle.marking.proofs.Pushing.{pushes_append}
 
 module _ {A : Type 0} (f : A → List ℕ) (xs : List A) (k : ℕ) (s r t : State) where
@@ -12,6 +12,3 @@ module _ {A : Type 0} (f : A → List ℕ) (xs : List A) (k : ℕ) (s r t : Stat
 
   pub scan-past : r ≡ pushes s (flat_map f (take k xs)) → slice_get xs k ≡ None → t ≡ r → t ≡ pushes s (flat_map f (take (k + 1) xs))
   scan-past i e p = p ∙ i ∙ ap (pushes s) (sym (joined-past f xs k e))
-
-pub scan-all : {A : Type 0} (f : A → List ℕ) (xs : List A) (k : ℕ) (s r : State) → r ≡ pushes s (flat_map f (take k xs)) → length xs ≤ k → r ≡ pushes s (flat_map f xs)
-scan-all f xs k s r i h = i ∙ ap (pushes s) (joined-all f xs k h)

@@ -2,7 +2,6 @@
 ghost use Rattle.std.specs.Prelude.{◌≡◌, ℕ, List, take, None};
 ghost use Rattle.std.specs.List.{flat_map};
 ghost use Rattle.marks.specs.Instances.{own};
-ghost use Rattle.marking.specs.Leads.{leads, seeds};
 ghost use Rattle.marking.specs.Queue.{state, pushes};
 ghost use Rattle.marks.specs.Rules.{Least, Within};
 ghost use Rattle.marks.specs.Words.{marking};

@@ -1,8 +1,8 @@
 -- Where the names begin.
-use Rattle.std.proofs.Common.{◌≡◌, ℕ, ◌+◌, ◌<◌, ◌≤◌, List, [], ◌∷◌, ◌++◌, map, length, get_or, take, drop, Some, None, sym, refl, ap, ◌∙◌, add-one, arith, length-take}
+use Rattle.std.proofs.Common.{◌≡◌, ℕ, ◌+◌, ◌<◌, ◌≤◌, List, [], ◌∷◌, ◌++◌, map, length, get_or, take, drop, Some, sym, refl, ap, ◌∙◌, add-one, arith, length-take}
 use Rattle.std.proofs.lemmas.List.FromFn.{map-range_with_len_more, length-map-range_with_len, get_or-map-range_with_len}
 use Rattle.std.proofs.lemmas.List.{length-drop, get_or-drop, get_or-take}
-use Rattle.std.proofs.lemmas.Option.{slice_get-get_or, slice_get_past}
+use Rattle.std.proofs.lemmas.Option.{slice_get-get_or}
 use Rattle.std.specs.List.{slice_get, range_with_len}
 use Rattle.reading.specs.Opening.{placed}
 use Rattle.reading.specs.Rows.{text_at, texts_at, named_at, next_name, name_start}
@@ -64,6 +64,3 @@ module _ {A : Type 0} (f : ℕ → A) (d : A) (all first count k : ℕ) (room : 
   nth-part h =
       slice_get-get_or (take count (drop first (map f (range_with_len 0 all)))) k d (rw length-part h) ∙
       ap Some (get_or-take count (drop first (map f (range_with_len 0 all))) k d h ∙ get_or-drop first (map f (range_with_len 0 all)) k d ∙ get_or-map-range_with_len f 0 all (first + k) (first + k) d (omega arith) (omega arith))
-
-  pub nth-part-past : count ≤ k → slice_get (take count (drop first (map f (range_with_len 0 all)))) k ≡ None
-  nth-part-past h = slice_get_past (take count (drop first (map f (range_with_len 0 all)))) k (rw length-part h)

@@ -1,5 +1,5 @@
 //! The records of a sheet, each read field by field up to its first fault.
-ghost use Rattle.std.specs.Prelude.{◌≡◌, ◌+◌, ◌*◌, ◌^◌, ◌<◌, ◌≤◌, length, take, IfOk};
+ghost use Rattle.std.specs.Prelude.{◌≡◌, ◌+◌, ◌*◌, ◌<◌, ◌≤◌, length, take, IfOk};
 ghost use Rattle.table.specs.Lists.{meant};
 ghost use Rattle.reading.specs.Formats.{Format, many, signed};
 ghost use Rattle.reading.specs.Layout.{header_format, signal_format, span_format, edge_format, term_format, timer_format, process_format};

@@ -68,16 +68,6 @@ noted-there b e ss p l hp hl apart = spot_in (noted_spots b e ss) p l hp hl ∙ 
     by true a false c = refl
     by false a y c = refl
 
-pub spots-noted : (b : Bool) (e : Edge) (ss : List Spot) (p l : ℕ) (s : Spot) → p ≡ e.process → l ≡ e.from → p < 8 → l < 16 → s ≡ noted_spot b e (get_or ss (16 * p + l) nowhere) → set ss (16 * p + l) s ≡ noted_spots b e ss
-unfolding noted_spots
-spots-noted b e ss p l s q w hp hl h =
-    ap (set ss (16 * p + l)) h
-    ∙ ap (λ i. set ss i (noted_spot b e (get_or ss i nowhere))) at
-    ∙ sym (cond-true (ltb e.process 8 && ltb e.from 16) (set ss (16 * e.process + e.from) (noted_spot b e (get_or ss (16 * e.process + e.from) nowhere))) ss (and_from (ltb e.process 8) (ltb e.from 16) (lt-ltb e.process 8 (omega arith)) (lt-ltb e.from 16 (omega arith))))
-  where
-    at : 16 * p + l ≡ 16 * e.process + e.from
-    at = omega arith
-
 pub spots-kept : (b : Bool) (e : Edge) (ss : List Spot) (p l : ℕ) → p ≡ e.process → l ≡ e.from → ((p < 8) × (16 ≤ l)) ⊎ (8 ≤ p) → ss ≡ noted_spots b e ss
 unfolding noted_spots
 spots-kept b e ss p l q w (inl h) =

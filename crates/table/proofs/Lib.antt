@@ -1,4 +1,3 @@
 pub mod Forms
-pub mod Places
 pub mod Scans
 pub mod Windows

@@ -36,7 +36,3 @@ window-none xs i e h = rw (drop-none xs i h) (take-nil (e - i))
 pub window-some : {A : Type 0} (xs : List A) (i e : ℕ) (x : A) → i < e → slice_get xs i ≡ Some x → window xs i e ≡ x ∷ window xs (i + 1) e
 unfolding window
 window-some xs i e x lt h = let z : e - i ≡ suc (e - (i + 1)) = omega arith in rw (drop-some xs i x h, z)
-
-pub window-front : {A : Type 0} (xs : List A) (n : ℕ) → window xs 0 n ≡ take n xs
-unfolding window
-window-front xs n = let z : n - 0 ≡ n = omega arith in rw z

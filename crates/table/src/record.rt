@@ -20,7 +20,7 @@ pub struct Process {
     pub settings: [Timer; 8],
 }
 
-#[derive(Clone, Copy, Debug, PartialEq, Eq, Default)]
+#[derive(Clone, Copy, Debug, PartialEq, Eq)]
 pub struct Signal {
     pub class: u8,
     pub destination: u8,
