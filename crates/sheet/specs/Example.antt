@@ -1,17 +1,12 @@
 -- The worked example: its 104 bytes and what they hold.
 --   gate             the bytes
---   gate_opened      its table and its names with their places
+--   gate_opened      the worked example's table, and its names with their places
 --   Refuses          what is said of it with a byte changed
 --   Opens            the bytes open to that; a byte less gives 1 at bit 824, a byte more 5 at bit 832, none 1 at bit 0
-use Rattle.std.specs.Prelude.{◌≡◌, ℕ, List, [], ◌∷◌, ◌++◌, take, ℤ, pos, Some, Ok, Err, codes, Result, slice_set}
+use Rattle.std.specs.Prelude.{◌≡◌, ℕ, List, [], ◌∷◌, ◌++◌, take, Some, Ok, Err, codes, Result, slice_set}
 use Rattle.reading.specs.Opening.{Opened, opened}
-use Rattle.table.specs.Lists.{Lists}
+use Rattle.table.specs.Gate.{gate_table}
 use Rattle.refusal.specs.Refusals.{refusal}
-use Rattle.table.specs.declared.record.Edge.{Edge}
-use Rattle.table.specs.declared.record.Signal.{Signal}
-use Rattle.table.specs.declared.record.Span.{Span}
-use Rattle.table.specs.declared.record.Term.{Term}
-use Rattle.table.specs.declared.record.Timer.TheVariants.{Off}
 use Rattle.refusal.specs.declared.fault.Layer.{Layer}
 use Rattle.refusal.specs.declared.fault.Place.{Place}
 use Rattle.refusal.specs.declared.fault.Refusal.{Refusal}
@@ -25,36 +20,6 @@ gate =
     0x18 ∷ 0x00 ∷ 0x04 ∷ 0x88 ∷ 0x10 ∷ 0x82 ∷ 0x00 ∷ 0x00 ∷ 0x00 ∷ 0x00 ∷ 0x44 ∷ 0x00 ∷ 0x00 ∷ 0x40 ∷ 0x00 ∷ 0x40 ∷
     0x00 ∷ 0x00 ∷ 0x40 ∷ 0x00 ∷ 0x14 ∷ 0x00 ∷ 0x00 ∷ 0x02 ∷ 0x72 ∷ 0x78 ∷ 0x02 ∷ 0x74 ∷ 0x78 ∷ 0x03 ∷ 0x72 ∷ 0x65 ∷
     0x71 ∷ 0x02 ∷ 0x67 ∷ 0x6F ∷ 0x03 ∷ 0x61 ∷ 0x63 ∷ 0x6B ∷ []
-
-abbrev span : ℕ → ℕ → Span
-span s n = record { start = s; count = n }
-
-abbrev edge : ℕ → ℕ → ℕ → ℕ → ℕ → ℕ → ℕ → Span → Span → Edge
-edge p l m k a b g u v =
-    record { process = p; from = l; to = m; kind = k; first = a; second = b; mode = g; guard = u; value = v }
-
-abbrev term : ℕ → ℤ → Term
-term o z = record { operation = o; argument = z }
-
-abbrev signal : ℕ → ℕ → Signal
-signal c d = record { class = c; destination = d }
-
-abbrev pub gate_table : Lists
-gate_table = record {
-  processes =
-      record { locations = 3; first = 0; variables = 2; timers = 1; values = pos 0 ∷ pos 7 ∷ []; settings = Off ∷ [] } ∷
-      record { locations = 2; first = 0; variables = 1; timers = 1; values = pos 0 ∷ []; settings = Off ∷ [] } ∷ [];
-  signals = signal 1 0 ∷ signal 0 1 ∷ signal 2 0 ∷ [];
-  edges =
-      edge 0 0 1 0 0 0 0 (span 0 0) (span 0 0) ∷
-      edge 0 1 2 1 1 0 0 (span 0 0) (span 0 1) ∷
-      edge 0 2 0 3 0 0 0 (span 0 0) (span 1 1) ∷
-      edge 0 0 0 5 0 0 0 (span 0 0) (span 0 0) ∷
-      edge 1 0 1 0 1 0 0 (span 0 0) (span 0 0) ∷
-      edge 1 1 0 3 0 0 1 (span 2 3) (span 0 1) ∷
-      edge 1 1 0 1 2 0 2 (span 0 0) (span 0 1) ∷ [];
-  terms = term 1 (pos 0) ∷ term 1 (pos 1) ∷ term 0 (pos 0) ∷ term 1 (pos 0) ∷ term 5 (pos 0) ∷ [];
-}
 
 unfoldable pub gate_opened : Opened
 gate_opened = record {
