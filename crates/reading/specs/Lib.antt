@@ -4,3 +4,4 @@ pub mod Layout
 pub mod Opening
 pub mod Readings
 pub mod Rows
+pub mod Spelling
