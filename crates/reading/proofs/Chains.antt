@@ -16,6 +16,35 @@ pub after-bad : {A B : Type 0} (r : Refusal) (k : A → ℕ → Answer B) → af
 unfolding after
 after-bad r k = refl
 
+-- what an answer tells
+
+pub got-value : {A : Type 0} (x y : A) (p q : ℕ) → got x p ≡ got y q → x ≡ y
+got-value x y p q e = cc
+
+pub got-end : {A : Type 0} (x y : A) (p q : ℕ) → got x p ≡ got y q → p ≡ q
+got-end x y p q e = cc
+
+pub bad-got : {A B : Type 0} (r : Refusal) (x : A) (q : ℕ) → bad r ≡ got x q → B
+bad-got r x q e = cc
+
+-- what was read before what follows was read
+pub record Before {A B : Type 0} (a : Answer A) (next : A → ℕ → Answer B) (y : B) (q : ℕ) : Type 0 where
+  pub value : A
+  pub end : ℕ
+  pub first : a ≡ got value end
+  pub rest : next value end ≡ got y q
+
+pub after-parts : {A B : Type 0} (a : Answer A) (next : A → ℕ → Answer B) (y : B) (q : ℕ) → after a next ≡ got y q → Before a next y q
+unfolding after
+after-parts (got x e) next y q h = record { value = x; end = e; first = refl; rest = h }
+after-parts (bad r) next y q h = bad-got r y q h
+
+pub after_from : {A B : Type 0} (a : Answer A) (next : A → ℕ → Answer B) (x : A) (e : ℕ) → a ≡ got x e → after a next ≡ next x e
+unfolding after
+after_from a next x e h = ap (λ b. after b next) h
+
+-- readers
+
 module _ {A B : Type 0} {f : List ℕ → ℕ → Answer B} {means : A → B} {s t : Reader} {r : Result A SheetFault} where
   -- what was read and what was refused, at the bytes that a reader had before
   pub read : (bs : List ℕ) {x : A} → Reads f means s r t → r ≡ Ok x → s.bytes.now ≡ bs → f bs s.place ≡ got (means x) t.place

@@ -1,6 +1,9 @@
 pub mod Chains
+pub mod Exact
 pub mod Loads
 pub mod Naming
 pub mod Numbers
 pub mod Rows
+pub mod Spelled
+pub mod Taken
 pub mod Viewing

@@ -1,25 +1,15 @@
 -- The fields of an edge, out of the number that its 60 bits write.
-use Rattle.std.proofs.Common.{◌≡◌, ℕ, ◌+◌, ◌-◌, ◌*◌, ◌/◌, ◌%◌, ◌^◌, ◌<◌, ◌≤◌, true, ◌&&◌, leb, List, length, get_or, take, drop, sym, refl, ap, ◌∙◌, arith, pow_mono}
-use Rattle.std.proofs.lemmas.Bool.{le-leb, and_from, cond-true}
+use Rattle.std.proofs.Common.{◌≡◌, ℕ, ◌+◌, ◌-◌, ◌*◌, ◌/◌, ◌%◌, ◌^◌, ◌<◌, ◌≤◌, List, length, get_or, take, drop, sym, refl, ap, ◌∙◌, arith}
 use Rattle.std.proofs.lemmas.List.{get_or-take, get_or-drop}
 use Rattle.std.specs.List.{slice_range}
 use Rattle.reading.proofs.Chains.{after-got}
-use Rattle.reading.proofs.Numbers.{number-none, number-below, number-part, number-bytes}
-use Rattle.reading.specs.Formats.{got, taken, number}
+use Rattle.reading.proofs.Numbers.{number-none, number-part, number-bytes}
+use Rattle.reading.proofs.Taken.{plain-room}
+use Rattle.reading.specs.Formats.{number}
 use Rattle.reading.specs.Layout.{edge_format, span_format}
 use Rattle.reading.specs.Readings.{read_at}
 use Rattle.reading.specs.Rows.{no_edge}
 use Rattle.table.specs.declared.record.Edge.{Edge}
-use Rattle.refusal.specs.declared.fault.Refusal.{Refusal}
-
-plain-room : (bs : List ℕ) (p w : ℕ) (r : Refusal) → w ≤ 16 → p + w ≤ 8 * length bs → taken w 0 65535 r bs p ≡ got (number bs p w) (p + w)
-unfolding taken
-plain-room bs p w r h room =
-    let a : leb (p + w) (8 * length bs) ≡ true = le-leb (p + w) (8 * length bs) room in
-    let m : 2 ^ w ≤ 2 ^ 16 = pow_mono h in
-    let b : leb (number bs p w) 65535 ≡ true = le-leb (number bs p w) 65535 (omega (arith, number-below bs p w)) in
-    let both = and_from (leb 0 (number bs p w)) (leb (number bs p w) 65535) (le-leb 0 (number bs p w) (omega arith)) b in
-    cond-true (leb (p + w) (8 * length bs)) _ _ a ∙ cond-true (leb 0 (number bs p w) && leb (number bs p w) 65535) _ _ both
 
 piece : (bs : List ℕ) (p a w r q : ℕ) → q ≡ p + a → a + w + r ≡ 60 → number bs q w ≡ number bs p 60 / 2 ^ r % 2 ^ w
 piece bs p a w r q e s = ap (λ k. number bs k w) e ∙ number-part bs p a w r ∙ ap (λ k. number bs p k / 2 ^ r % 2 ^ w) s

@@ -2,7 +2,7 @@
 use Rattle.std.proofs.Common.{◌≡◌, ℕ, zero, suc, ◌+◌, ◌-◌, ◌*◌, ◌<◌, ◌≤◌, List, [], ◌∷◌, ◌++◌, IsErrAnd, Ok, Err, Result, sym, refl, ap, ◌∙◌, subst, add-one, arith}
 use Rattle.std.proofs.Math.Nat.{mul-suc, mul-le-mul_left}
 use Rattle.std.proofs.lemmas.List.FromFn.{map-range_with_len_more}
-use Rattle.reading.proofs.Chains.{read, refused, exit}
+use Rattle.reading.proofs.Chains.{got-value, got-end, after-parts, read, refused, exit}
 use Rattle.reading.specs.Faults.{sheet_refusal}
 use Rattle.reading.specs.Formats.{Answer, Format, got, bad, after, each}
 use Rattle.reading.specs.Readings.{Reads, value_or, read_at, row_at}
@@ -19,7 +19,7 @@ unfolding each
 each_none f p = refl
 
 module _ {A : Type 0} (f : ℕ → Answer A) (p : ℕ) where
-  each-suc : (n : ℕ) (xs : List A) (q : ℕ) (x : A) (e : ℕ) → each n f p ≡ got xs q → f q ≡ got x e → each (suc n) f p ≡ got (xs ++ x ∷ []) e
+  pub each-suc : (n : ℕ) (xs : List A) (q : ℕ) (x : A) (e : ℕ) → each n f p ≡ got xs q → f q ≡ got x e → each (suc n) f p ≡ got (xs ++ x ∷ []) e
   unfolding each after
   each-suc n xs q x e h k = ap (λ y. after y (λ xs q. after (f q) (λ x e. got (xs ++ x ∷ []) e))) h ∙ ap (λ y. after y (λ x e. got (xs ++ x ∷ []) e)) k
 
@@ -41,6 +41,41 @@ module _ {A : Type 0} (f : ℕ → Answer A) (p : ℕ) where
   -- the record after the first i is refused, so a row of n is
   pub each-bad : (i n : ℕ) (xs : List A) (q : ℕ) (r : Refusal) → i < n → each i f p ≡ got xs q → f q ≡ bad r → each n f p ≡ bad r
   each-bad i n xs q r lt h k = let e : suc i + (n - suc i) ≡ n = omega arith in rw e at (each-late (suc i) (n - suc i) r (each-stop i xs q r h k))
+
+  -- the last record of a row, and those in front of it
+  pub record Last (n : ℕ) (zs : List A) (e : ℕ) : Type 0 where
+    pub front : List A
+    pub end : ℕ
+    pub value : A
+    pub first : each n f p ≡ got front end
+    pub last : f end ≡ got value e
+    pub whole : zs ≡ front ++ value ∷ []
+
+  pub each-parts : (n : ℕ) (zs : List A) (e : ℕ) → each (suc n) f p ≡ got zs e → Last n zs e
+  unfolding each
+  each-parts n zs e h =
+      let a = after-parts (each n f p) (λ xs q. after (f q) (λ x e. got (xs ++ x ∷ []) e)) zs e h in
+      let b = after-parts (f a.end) (λ x e. got (a.value ++ x ∷ []) e) zs e a.rest in
+      let z = got-end (a.value ++ b.value ∷ []) zs b.end e b.rest in
+      record {
+        front = a.value;
+        end = a.end;
+        value = b.value;
+        first = a.first;
+        last = b.first ∙ ap (λ k. got b.value k) z;
+        whole = sym (got-value (a.value ++ b.value ∷ []) zs b.end e b.rest);
+      }
+
+-- one record more in front
+pub each-cons : {A : Type 0} (f : ℕ → Answer A) (p n : ℕ) (x : A) (q : ℕ) (xs : List A) (e : ℕ) → f p ≡ got x q → each n f q ≡ got xs e → each (suc n) f p ≡ got (x ∷ xs) e
+each-cons f p zero x q xs e h k =
+    let b = sym (each_none f q) ∙ k in
+    each-suc f p 0 [] p x q (each_none f p) h
+    ∙ ap (λ ys. got (x ∷ ys) q) (got-value [] xs q e b) ∙ ap (λ z. got (x ∷ xs) z) (got-end [] xs q e b)
+each-cons f p (suc n) x q xs e h k =
+    let b = each-parts f q n xs e k in
+    each-suc f p (suc n) (x ∷ b.front) b.end b.value e (each-cons f p n x q b.front b.end h b.first) b.last
+    ∙ ap (λ ys. got (x ∷ ys) e) (sym b.whole)
 
 -- a reader went from s to t, and read the n records xs
 pub record Row {A : Type 0} (f : List ℕ → ℕ → Answer A) (n : ℕ) (xs : List A) (s t : Reader) : Type 0 where
