@@ -44,11 +44,16 @@ pub record Exact {A : Type 0} (E : End) (f : Format A) (F : A → Type 0) : Type
 
 -- other facts
 
-pub exact-like : {A : Type 0} {E : End} {f : Format A} {F : A → Type 0} (G : A → Type 0) → ((x : A) → F x → G x) → ((x : A) → G x → F x) → Exact E f F → Exact E f G
-exact-like G to from h = record {
-  back = λ bs p q x le e. let t = h.back bs p q x le e in record { fields = t.fields; end = t.end; stops = t.stops; fact = to x t.fact };
-  forth = λ bs p x g. h.forth bs p x (from x g);
+-- the fields may be used
+pub exact-spelled : {A : Type 0} {E : End} {f : Format A} {F : A → Type 0} (G : A → Type 0) →
+    ((bs : List ℕ) (p : ℕ) (x : A) → Spells bs p (f.writes x) → F x → G x) → ((bs : List ℕ) (p : ℕ) (x : A) → Spells bs p (f.writes x) → G x → F x) → Exact E f F → Exact E f G
+exact-spelled G to from h = record {
+  back = λ bs p q x le e. let t = h.back bs p q x le e in record { fields = t.fields; end = t.end; stops = t.stops; fact = to bs p x t.fields t.fact };
+  forth = λ bs p x g s. h.forth bs p x (from bs p x s g) s;
 }
+
+pub exact-like : {A : Type 0} {E : End} {f : Format A} {F : A → Type 0} (G : A → Type 0) → ((x : A) → F x → G x) → ((x : A) → G x → F x) → Exact E f F → Exact E f G
+exact-like G to from h = exact-spelled G (λ _ _ x _ f. to x f) (λ _ _ x _ g. from x g) h
 
 -- one format each
 
@@ -64,18 +69,23 @@ exact-field w least most n = record {
 }
 
 -- the bits themselves bound the number
-pub exact-plain : (w : ℕ) → w ≤ 16 → Exact within (plain w) (λ v. v < 2 ^ w)
-unfolding Spells ends
-exact-plain w small =
-    let f = exact-field w 0 65535 1 in
-    let m : 2 ^ w ≤ 2 ^ 16 = pow_mono small in
-    record {
-      back = λ bs p q x le e.
-          let t = f.back bs p q x le e in
-          let v : number bs p w ≡ x = t.fields.0 in
-          record { fields = t.fields; end = t.end; stops = t.stops; fact = omega (arith, number-below bs p w) };
-      forth = λ bs p x g. f.forth bs p x (omega arith, omega arith);
-    }
+module _ (w : ℕ) (small : w ≤ 16) where
+  pub exact-bits : Exact within (plain w) (λ _. Unit {0})
+  unfolding Spells
+  exact-bits =
+      exact-spelled (λ _. Unit {0}) (λ bs p x s f. tt)
+      (λ bs p x s _.
+      let v : number bs p w ≡ x = s.0 in
+      let m : 2 ^ w ≤ 2 ^ 16 = pow_mono small in
+      (omega arith, omega (arith, number-below bs p w)))
+      (exact-field w 0 65535 1)
+
+  pub exact-plain : Exact within (plain w) (λ v. v < 2 ^ w)
+  unfolding Spells
+  exact-plain =
+      exact-spelled (λ v. v < 2 ^ w)
+      (λ bs p x s _. let v : number bs p w ≡ x = s.0 in omega (arith, number-below bs p w))
+      (λ bs p x s g. tt) exact-bits
 
 -- values renamed
 pub exact-via : {A B : Type 0} {E : End} {f : Format A} {F : A → Type 0} (to : A → B) (from : B → A) (G : B → Type 0) →

@@ -1,9 +1,13 @@
 pub mod Chains
 pub mod Exact
+pub mod ExactRecords
+pub mod Inverse
 pub mod Loads
 pub mod Naming
 pub mod Numbers
 pub mod Rows
+pub mod Sizes
 pub mod Spelled
 pub mod Taken
+pub mod Unique
 pub mod Viewing

@@ -3,6 +3,7 @@
 --   content f         the number that it writes
 --   ends p fs         the bit behind the fields fs, the first of which begins at bit p
 --   Spells bs p fs    the fields fs lie in the bytes bs, one behind the other, from bit p on
+--   area_of ts        the name area of the names ts: for each its length and its characters
 --   AreBytes bs       no number of bs is more than a byte holds
 --   FitsProcess, FitsTerm, FitsRecords   the values, timers and terms of a table, as the records of every table have them
 --   IsName t          1 to 15 characters, each from 33 to 126
@@ -12,7 +13,7 @@
 --   Inverse bs        bs opens to o exactly if it is the sheet of some contents that mean o
 use Rattle.std.specs.Prelude.{◌≡◌, ℕ, ◌+◌, ◌-◌, ◌*◌, ◌%◌, ◌<◌, ◌≤◌, List, [], ◌∷◌, length, Ok, None, FitsSigned, slice_index}
 use Rattle.std.specs.Int.{w16}
-use Rattle.std.specs.List.{All}
+use Rattle.std.specs.List.{All, flat_map}
 use Rattle.reading.specs.Formats.{Field, bits, fill, number}
 use Rattle.reading.specs.Layout.{Contents, sheet_format}
 use Rattle.reading.specs.Opening.{Opened, names_byte, opened, placed, split}
@@ -35,6 +36,9 @@ ends p (f ∷ fs) = ends (p + width p f) fs
 unfoldable pub Spells : List ℕ → ℕ → List Field → Type 0
 Spells bs p [] = Unit {0}
 Spells bs p (f ∷ fs) = (number bs p (width p f) ≡ content f) × Spells bs (p + width p f) fs
+
+abbrev pub area_of : List (List ℕ) → List ℕ
+area_of ts = flat_map (λ t. length t ∷ t) ts
 
 abbrev pub AreBytes : List ℕ → Type 0
 AreBytes bs = (i : ℕ) → slice_index bs i < 256

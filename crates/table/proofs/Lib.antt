@@ -1,3 +1,4 @@
 pub mod Forms
+pub mod Passing
 pub mod Scans
 pub mod Windows
