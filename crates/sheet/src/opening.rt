@@ -8,6 +8,7 @@ ghost use Rattle.reading.specs.Faults.{edge_at_refusal, sheet_refusal};
 ghost use Rattle.reading.specs.Layout.{sheet_format};
 ghost use Rattle.reading.specs.Opening.{edges_bit, names_byte, placed, split, edge_refused_at, opened};
 ghost use Rattle.reading.specs.Readings.{Reads};
+ghost use Rattle.reading.specs.Spelling.{Inverse};
 ghost use Rattle.sheet.specs.Views.{contents_of, lists_of, opened_of};
 
 use crate::view::Sheet;
@@ -67,9 +68,10 @@ fn check_edges(sheet: &Sheet<'_>) -> Result<(), EdgeAt>
 }
 
 /// Reads all fields in their order and then looks at the edges. The first fault decides.
-#[tactic(auto, unfolding(reading::specs::Opening::opened, crate::specs::Views::contents_of))]
+#[tactic(auto, using(reading::proofs::Inverse::inverse), unfolding(reading::specs::Opening::opened, crate::specs::Views::contents_of))]
 pub fn open_sheet(bytes: &[u8]) -> Result<Sheet<'_>, SheetFault>
-    ensures { result_map_both opened_of sheet_refusal result ≡ opened bytes.now }
+    ensures answer { result_map_both opened_of sheet_refusal result ≡ opened bytes.now }
+    ensures inverse { Inverse bytes.now }
 {
     let sheet = read_sheet(&mut Reader::at(bytes, 0))?;
     check_edges(&sheet)?;
