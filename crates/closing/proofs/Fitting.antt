@@ -20,13 +20,14 @@ use Rattle.refusal.specs.declared.fault.Refusal.{Refusal}
 use Rattle.refusal.specs.declared.fault.TableFault.{TableFault}
 use Rattle.rules.proofs.Examined.{Passed, passed, process-there}
 use Rattle.rules.proofs.Fates.{there-is}
-use Rattle.rules.proofs.Lists.{In, in-counting, first_from-all, none-some, none-parts, mapped-none, cond-none}
+use Rattle.rules.proofs.Lists.{In, in-counting, first_from-all}
 use Rattle.rules.proofs.Promised.{tests, closes}
 use Rattle.rules.specs.Closing.{chaotic, with_chaos, closed_process, closed_signal, fate, freed, freed_as, changed, closed_edge, timer_loops, chaos_loops, added_at, added_to, added, closed, closed_by, closed_count, ninth, test_at, timers_refused, count_refused, test_refused}
 use Rattle.rules.specs.Promise.{Marked, Tests, Closes}
 use Rattle.rules.specs.States.{numbered}
 use Rattle.rules.specs.Steps.{answer}
 use Rattle.survey.specs.Surveys.{spot_at, chaotic_at}
+use Rattle.table.proofs.Passing.{none-some, none-parts, mapped-none, cond-none}
 use Rattle.table.specs.Edges.{blank, proc_at}
 use Rattle.table.specs.Examination.{first_from, acts, some, examined}
 use Rattle.table.specs.Lists.{Lists}

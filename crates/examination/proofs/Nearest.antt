@@ -2,6 +2,7 @@
 use Rattle.std.proofs.Common.{◌≡◌, ℕ, zero, suc, ◌+◌, ◌<◌, Bool, true, false, cond, List, [], ◌∷◌, map, Some, None, Option, refl, ap, ◌∙◌, arith}
 use Rattle.std.specs.List.{slice_get, find, range_with_len}
 use Rattle.std.specs.Option.{option_or, option_map}
+use Rattle.table.proofs.Passing.{none-parts}
 use Rattle.table.specs.Examination.{first_at, first_from, first_location, location_in}
 use Rattle.table.specs.Lists.{Proc}
 use Rattle.table.specs.declared.site.Site.{Site}
@@ -37,10 +38,6 @@ first_cong f g (x ∷ xs) i same =
 pub location-cong : (h k : ℕ → ℕ → Bool) (ps : List Proc) → ((p : ℕ) (r : Proc) (l : ℕ) → slice_get ps p ≡ Some r → l < r.locations → h p l ≡ k p l) → first_location h ps ≡ first_location k ps
 location-cong h k ps same =
     first_cong (location_in h) (location_in k) ps 0 (λ p r e. let q : 0 + p ≡ p = omega arith in rw q (ap (option_map (λ l. (p, l))) (from-cong (h p) (k p) r.locations 0 (λ l lt. same p r l e (omega arith)))))
-
-none-parts : {R : Type 0} (o p : Option R) → option_or o p ≡ None → (o ≡ None) × (p ≡ None)
-none-parts None p e = (refl, e)
-none-parts (Some x) p e = cc
 
 first-parts : {A R : Type 0} (f : ℕ → A → Option R) (x : A) (xs : List A) (i : ℕ) → first_at f i (x ∷ xs) ≡ None → (f i x ≡ None) × (first_at f (i + 1) xs ≡ None)
 unfolding first_at

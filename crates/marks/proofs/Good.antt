@@ -1,11 +1,11 @@
 -- What a table that passes its examination is known to keep to.
-use Rattle.std.proofs.Common.{◌≡◌, ℕ, zero, suc, ◌+◌, ◌<◌, ◌≤◌, Bool, true, false, cond, List, [], ◌∷◌, length, get_or, drop, Some, None, Option, sym, refl, ap, ◌∙◌, subst, ⊎_elim, arith}
+use Rattle.std.proofs.Common.{◌≡◌, ℕ, zero, suc, ◌+◌, ◌<◌, ◌≤◌, Bool, true, false, List, [], ◌∷◌, length, get_or, drop, Some, None, Option, sym, refl, ap, ◌∙◌, subst, ⊎_elim, arith}
 use Rattle.std.proofs.lemmas.Bool.{cases_lt}
 use Rattle.std.proofs.lemmas.List.{get_or_past}
-use Rattle.std.proofs.lemmas.Option.{slice_get-get_or}
 use Rattle.std.proofs.lemmas.Bool.Decides.{nat_tests}
 use Rattle.std.specs.List.{slice_get}
-use Rattle.std.specs.Option.{option_or, option_map}
+use Rattle.std.specs.Option.{option_or}
+use Rattle.table.proofs.Passing.{none-parts, cond-none, mapped-none, limit-all}
 use Rattle.table.specs.Edges.{blank, proc_at, missing, missing_in, edge_tests, edge_fault}
 use Rattle.table.specs.Examination.{first_at, bad_process, too_many, limited, edge_refused, lists_refused, processes_refused, signals_refused, edges_refused, limits_refused, locations_refused, examined}
 use Rattle.table.specs.Lists.{Lists, Proc}
@@ -42,29 +42,17 @@ pub record Good (T : Lists) : Type 0 where
   pub to : (k : ℕ) (e : Edge) → slice_get T.edges k ≡ Some e → e.to < (proc_at T e).locations
   pub named : (k : ℕ) (e : Edge) → slice_get T.edges k ≡ Some e → Named (length T.signals) (proc_at T e) (kind_of e.kind) e
 
-none-parts : {A : Type 0} (a b : Option A) → option_or a b ≡ None → (a ≡ None) × (b ≡ None)
-none-parts None b e = (refl, e)
-none-parts (Some x) b e = let z : ◌≡◌ {A = ℕ} 0 1 = cc in absurd (omega arith)
-
 first_at-none : {A R : Type 0} (f : ℕ → A → Option R) (i : ℕ) (xs : List A) → first_at f i xs ≡ None → (k : ℕ) (x : A) → slice_get xs k ≡ Some x → (j : ℕ) × (f j x ≡ None)
 unfolding first_at
-first_at-none f i [] e k x h = let z : ◌≡◌ {A = ℕ} 0 1 = cc in absurd (omega arith)
+first_at-none f i [] e k x h = cc
 first_at-none f i (y ∷ ys) e zero x h =
     let q : y ≡ x = cc in
     (i, ap (f i) (sym q) ∙ (none-parts (f i y) (first_at f (i + 1) ys) e).0)
 first_at-none f i (y ∷ ys) e (suc k) x h = first_at-none f (i + 1) ys (none-parts (f i y) (first_at f (i + 1) ys) e).1 k x h
 
-cond-none : {A : Type 0} (b : Bool) (x : A) → cond b (Some x) None ≡ None → b ≡ false
-cond-none true x e = let z : ◌≡◌ {A = ℕ} 0 1 = cc in absurd (omega arith)
-cond-none false x e = refl
-
 first-none : {R : Type 0} (b : Bool) (x : R) (ts : List (Bool × R)) → first ((b, x) ∷ ts) ≡ None → b ≡ false
 first-none true x ts e = let z : ◌≡◌ {A = ℕ} 0 1 = cc in absurd (omega arith)
 first-none false x ts e = refl
-
-mapped-none : {A B : Type 0} (f : A → B) (o : Option A) → option_map f o ≡ None → o ≡ None
-mapped-none f None e = refl
-mapped-none f (Some x) e = let z : ◌≡◌ {A = ℕ} 0 1 = cc in absurd (omega arith)
 
 good-process : (p : Proc) → bad_process p ≡ false → GoodProcess p
 good-process p e = record { locations = grind (arith, nat_tests); variables = grind (arith, nat_tests); timers = grind (arith, nat_tests) }
@@ -99,8 +87,7 @@ module _ (T : Lists) (passed : examined T ≡ None) where
     where
       inside : p < length T.processes → GoodProcess (get_or T.processes p blank)
       inside h =
-          let x = first_at-none (limited bad_process) 0 T.processes limits.1.0 p (get_or T.processes p blank) (slice_get-get_or T.processes p blank h) in
-          good-process (get_or T.processes p blank) (cond-none (bad_process (get_or T.processes p blank)) (refusal 3 Layer.Table (Place.At x.0)) x.1)
+          good-process (get_or T.processes p blank) (limit-all bad_process T.processes limits.1.0 p blank h)
 
       beyond : length T.processes ≤ p → GoodProcess (get_or T.processes p blank)
       beyond h = subst GoodProcess (sym (get_or_past T.processes p blank h)) blank-good

@@ -17,17 +17,17 @@ use Rattle.table.specs.declared.record.Signal.{Signal}
 use Rattle.table.specs.declared.record.Timer.{Timer}
 use Rattle.table.specs.declared.record.Timer.TheVariants.{Off, On}
 
-pub record FitsCounts (c : Counts) : Type 0 where
+pub record SheetCounts (c : Counts) : Type 0 where
   pub some : 1 ≤ c.processes
   pub processes : c.processes ≤ 8
   pub signals : c.signals ≤ 64
   pub edges : c.edges ≤ 2048
   pub terms : c.terms ≤ 4096
 
-pub exact-header : Exact within header_format FitsCounts
+pub exact-header : Exact within header_format SheetCounts
 unfolding header_format
 exact-header =
-    exact-like FitsCounts
+    exact-like SheetCounts
     (λ c g. record { some = g.1.0.0; processes = g.1.0.1; signals = g.1.1.0.1; edges = g.1.1.1.0.1; terms = g.1.1.1.1.0.1 })
     (λ c g. ((omega arith, omega arith), ((g.some, g.processes), ((omega arith, g.signals), ((omega arith, g.edges), ((omega arith, g.terms), refl))))))
     (exact-then (exact-field 8 1 1 2) (λ _.
@@ -163,7 +163,7 @@ exact-name =
 none-long : (ts : List Timer) → list_any too_long ts ≡ false → All (λ t. too_long t ≡ false) ts
 none-long ts h = λ k d l. false_from_ne_true (too_long (get_or ts k d)) (λ e. both_ways (list_any too_long ts) h (list_any_at too_long ts k d l e))
 
-pub record GoodProcess (p : Proc) : Type 0 where
+pub record SheetProcess (p : Proc) : Type 0 where
   pub limits : bad_process p ≡ false
   pub fits : FitsProcess p
 
@@ -173,7 +173,7 @@ ReadProcess p =
     × (((length p.values ≡ p.variables) × All (FitsSigned w16) p.values) × (((length p.settings ≡ p.timers) × All (λ t. too_long t ≡ false) p.settings)
     × (p ≡ record { locations = p.locations - 1 + 1; first = p.first; variables = p.variables; timers = p.timers; values = p.values; settings = p.settings }))))))
 
-process-read : (p : Proc) → ReadProcess p → GoodProcess p
+process-read : (p : Proc) → ReadProcess p → SheetProcess p
 process-read p g =
     let some : p.locations ≡ p.locations - 1 + 1 = ap (λ r. r.locations) g.1.1.1.1.1.1 in
     record {
@@ -181,7 +181,7 @@ process-read p g =
       fits = record { values = g.1.1.1.1.0.0; settings = g.1.1.1.1.1.0.0; words = g.1.1.1.1.0.1 };
     }
 
-read-process : (p : Proc) → GoodProcess p → ReadProcess p
+read-process : (p : Proc) → SheetProcess p → ReadProcess p
 read-process p g =
     let b = g.limits in (
       grind (arith, nat_tests),
@@ -203,10 +203,10 @@ read-process p g =
       ),
     )
 
-pub exact-process : Exact within process_format GoodProcess
+pub exact-process : Exact within process_format SheetProcess
 unfolding process_format
 exact-process =
-    exact-like GoodProcess process-read read-process
+    exact-like SheetProcess process-read read-process
     (exact-then (exact-plain 4 (omega arith)) (λ last.
     exact-then (exact-field 4 0 8 3) (λ variables.
     exact-then (exact-field 4 0 8 3) (λ timers.
@@ -223,7 +223,7 @@ exact-process =
 
 -- a signal
 
-pub record FitsSignal (processes : ℕ) (s : Signal) : Type 0 where
+pub record SheetSignal (processes : ℕ) (s : Signal) : Type 0 where
   pub class : s.class ≤ 3
   pub destination : s.destination ≤ cond (leb s.class 1) (processes - 1) 0
 
@@ -234,10 +234,10 @@ exact-destination processes class = by (leb class 1)
     by true = exact-like (λ d. d ≤ processes - 1) (λ d f. f.1) (λ d g. (omega arith, g)) (exact-field 3 0 (processes - 1) 3)
     by false = exact-like (λ d. d ≤ 0) (λ d f. f.1) (λ d g. (omega arith, g)) (exact-field 3 0 0 4)
 
-pub exact-signal : (processes : ℕ) → Exact within (signal_format processes) (FitsSignal processes)
+pub exact-signal : (processes : ℕ) → Exact within (signal_format processes) (SheetSignal processes)
 unfolding signal_format
 exact-signal processes =
-    exact-like (FitsSignal processes)
+    exact-like (SheetSignal processes)
     (λ s g. record { class = g.0.1; destination = g.1.0 })
     (λ s g. ((omega arith, g.class), (g.destination, refl)))
     (exact-then (exact-field 3 0 3 3) (λ class.
@@ -257,7 +257,7 @@ module _ (processes : ℕ) (some : 1 ≤ processes) where
   signal-class (suc (suc (suc zero))) d h l = ap not (eq-eqb d 0 (omega arith))
   signal-class (suc (suc (suc (suc c)))) d h l = absurd (omega arith)
 
-  pub good-signal : (s : Signal) → FitsSignal processes s → bad_signal processes s ≡ false
+  pub good-signal : (s : Signal) → SheetSignal processes s → bad_signal processes s ≡ false
   good-signal s h = signal-class s.class s.destination h.class h.destination
 
   class-signal : (c d : ℕ) → bad_signal processes (record { class = c; destination = d }) ≡ false → (c ≤ 3) × (d ≤ cond (leb c 1) (processes - 1) 0)
@@ -267,5 +267,5 @@ module _ (processes : ℕ) (some : 1 ≤ processes) where
   class-signal (suc (suc (suc zero))) d e = let l = eqb-true d 0 (not-false (eqb d 0) e) in (omega arith, omega arith)
   class-signal (suc (suc (suc (suc c)))) d e = absurd (both_ways (bad_signal processes (record { class = suc (suc (suc (suc c))); destination = d })) e (class-unknown processes (suc (suc (suc (suc c)))) d (omega arith)))
 
-  pub signal-good : (s : Signal) → bad_signal processes s ≡ false → FitsSignal processes s
+  pub signal-good : (s : Signal) → bad_signal processes s ≡ false → SheetSignal processes s
   signal-good s e = let r = class-signal s.class s.destination e in record { class = r.0; destination = r.1 }

@@ -9,7 +9,7 @@ use Rattle.reading.specs.Opening.{Opened, edges_bit, bad_edge, unless, judged, o
 use Rattle.reading.specs.Spelling.{FitsTerm, IsName, IsWritable, Inverse, meaning}
 use Rattle.reading.specs.declared.records.Counts.{Counts}
 use Rattle.reading.proofs.Exact.{Exact, behind, exact-like, exact-then, exact-many, exact-filled, exact-ended}
-use Rattle.reading.proofs.ExactRecords.{FitsCounts, GoodProcess, FitsSignal, exact-header, exact-process, exact-signal, exact-edge, exact-term, exact-name, good-signal, signal-good}
+use Rattle.reading.proofs.ExactRecords.{SheetCounts, SheetProcess, SheetSignal, exact-header, exact-process, exact-signal, exact-edge, exact-term, exact-name, good-signal, signal-good}
 use Rattle.refusal.specs.Refusals.{refusal}
 use Rattle.refusal.specs.declared.fault.Layer.{Layer}
 use Rattle.refusal.specs.declared.fault.Place.{Place}
@@ -19,10 +19,10 @@ use Rattle.table.specs.Edges.{edge_fault}
 use Rattle.table.specs.Examination.{bad_process, bad_signal, too_many, lists_refused, processes_refused, signals_refused, edges_refused, limits_refused}
 use Rattle.table.specs.Lists.{Lists}
 
-pub record GoodSheet (c : Contents) : Type 0 where
-  pub counts : FitsCounts (counts_of c.lists)
-  pub processes : All GoodProcess c.lists.processes
-  pub signals : All (FitsSignal (length c.lists.processes)) c.lists.signals
+pub record SheetContents (c : Contents) : Type 0 where
+  pub counts : SheetCounts (counts_of c.lists)
+  pub processes : All SheetProcess c.lists.processes
+  pub signals : All (SheetSignal (length c.lists.processes)) c.lists.signals
   pub terms : All FitsTerm c.lists.terms
   pub named : length c.names ≡ length c.lists.processes + length c.lists.signals
   pub names : All IsName c.names
@@ -33,10 +33,10 @@ counts-same n m a b c d =
     ap (λ k. made k n.signals n.edges n.terms) a ∙ ap (λ k. made m.processes k n.edges n.terms) b
     ∙ ap (λ k. made m.processes m.signals k n.terms) c ∙ ap (λ k. made m.processes m.signals m.edges k) d
 
-pub exact-sheet : Exact behind sheet_format GoodSheet
+pub exact-sheet : Exact behind sheet_format SheetContents
 unfolding sheet_format
 exact-sheet =
-    exact-like GoodSheet
+    exact-like SheetContents
     (λ c g. record { counts = g.0; processes = g.1.0.1; signals = g.1.1.0.1; terms = g.1.1.1.1.0.1; named = g.1.1.1.1.1.1.0.0; names = g.1.1.1.1.1.1.0.1 })
     (λ c g. (g.counts, ((refl, g.processes), ((refl, g.signals), ((refl, λ _ _ _. tt), ((refl, g.terms), (refl, ((g.named, g.names), refl))))))))
     (exact-then exact-header (λ counts.
@@ -58,13 +58,13 @@ exact-sheet =
 -- what the sheet's table keeps to
 
 module _ (c : Contents) where
-  counts-limited : FitsCounts (counts_of c.lists) → too_many c.lists ≡ false
+  counts-limited : SheetCounts (counts_of c.lists) → too_many c.lists ≡ false
   counts-limited h = let p = h.processes in let s = h.signals in let e = h.edges in let t = h.terms in grind (arith, nat_tests)
 
-  counts-fit : 1 ≤ length c.lists.processes → too_many c.lists ≡ false → FitsCounts (counts_of c.lists)
+  counts-fit : 1 ≤ length c.lists.processes → too_many c.lists ≡ false → SheetCounts (counts_of c.lists)
   counts-fit some h = record { some = some; processes = grind (arith, nat_tests); signals = grind (arith, nat_tests); edges = grind (arith, nat_tests); terms = grind (arith, nat_tests) }
 
-  pub good_writable : GoodSheet c → edges_refused c.lists ≡ None → IsWritable c
+  pub good_writable : SheetContents c → edges_refused c.lists ≡ None → IsWritable c
   unfolding limits_refused
   good_writable g edges =
       let T = c.lists in
@@ -81,7 +81,7 @@ module _ (c : Contents) where
         names = g.names;
       }
 
-  pub writable-good : IsWritable c → GoodSheet c
+  pub writable-good : IsWritable c → SheetContents c
   unfolding limits_refused
   writable-good w =
       let T = c.lists in

@@ -9,7 +9,7 @@ use Rattle.refusal.specs.Refusals.{first}
 use Rattle.rules.proofs.Closed.{closed-length, closed-locations, inside-closed, goal-closed}
 use Rattle.rules.proofs.Examined.{good, process-there, closed-good, limits-pass, edge-stays-sound}
 use Rattle.rules.proofs.Fates.{kind_then, kind-under, edge-sound}
-use Rattle.rules.proofs.Lists.{In, parts_none, none_first, all-first_at}
+use Rattle.rules.proofs.Lists.{In, none_first}
 use Rattle.rules.proofs.Moves.{ready-closed, moved-closed, sent-same, value_stays}
 use Rattle.rules.proofs.Twins.{MessageTwin, Twin, Alike, alike-put, alike-open, push-inner, push-outer, queue-length}
 use Rattle.rules.specs.Closing.{fate_as, fate, first_under, closed_edge, closed, test_refused}
@@ -17,6 +17,7 @@ use Rattle.rules.specs.Matching.{inside}
 use Rattle.rules.specs.States.{Running, World, idle, at, lacking, is_inbound, is_internal, is_outbound, goal}
 use Rattle.rules.specs.Steps.{scope, kind_ready, allowed, ready, enabled, sends, full, moved, message, received, deliver, edge_value, moved_along, move_effect, state_at, misplaced, unlike, state_refused, move_tests}
 use Rattle.rules.specs.declared.step.Message.{Message}
+use Rattle.table.proofs.Passing.{parts_none, all-first_at}
 use Rattle.table.specs.Edges.{absent, edge_fault}
 use Rattle.table.specs.Examination.{first_at, bad_signal, limits_refused}
 use Rattle.table.specs.Lists.{Lists}

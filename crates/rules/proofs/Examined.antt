@@ -11,9 +11,10 @@ use Rattle.refusal.specs.declared.fault.Layer.{Layer}
 use Rattle.refusal.specs.declared.fault.Place.{Place}
 use Rattle.rules.proofs.Closed.{Loop, of_chaos, of_timeout, of_rearm, closed-length, process-closed, closed-locations, closed-variables, closed-timers-chaos, closed-timers-least, signal-closed, signal-kept, closed-edges-length, in-closed, closed_in, some-closed, in-added, added-waits, none-added}
 use Rattle.rules.proofs.Fates.{kind_then, kind-under, acting-then, Names, there-is, is-there, names-then, unfit-then, form-then, untrue-then, Sound, sound-edge, edge-sound}
-use Rattle.rules.proofs.Lists.{In, in-get_or, in_all, any-in, in-any, any_append, any-padded, none-parts, parts_none, cond-none, mapped-none, first_at-all, all-first_at, first_from-all, all-first_from}
+use Rattle.rules.proofs.Lists.{In, in-get_or, in_all, any-in, in-any, any_append, any-padded, first_from-all, all-first_from}
 use Rattle.rules.specs.Closing.{fate, freed, chaotic, with_chaos, closed_signal, closed_edge, first_under, rearm, timeout, added, closed, invites, closed_count, ninth, test_at, timers_refused, count_refused, test_refused}
 use Rattle.rules.specs.States.{padded, is_inbound, is_outbound, is_input, waiting}
+use Rattle.table.proofs.Passing.{none-parts, parts_none, cond-none, mapped-none, first_at-all, all-first_at, limit-all, all-limit}
 use Rattle.table.specs.Edges.{blank, absent, proc_at, untrue_in, edge_fault}
 use Rattle.table.specs.Examination.{too_long, bad_process, bad_signal, too_many, limited, edge_refused, leaves, acting, acts, frees, freely, some, mixed, stuck, location_in, first_location, location_refused, lists_refused, processes_refused, signals_refused, edges_refused, limits_refused, locations_refused, examined, first_at, first_from}
 use Rattle.table.specs.Examination as examination
@@ -34,12 +35,6 @@ pub record Passed (T : Lists) : Type 0 where
   pub edge : (e : Edge) → In e T.edges → Sound T e
   pub apart : (p l : ℕ) → p < length T.processes → l < (process_at T p).locations → mixed T p l ≡ false
   pub free : (p l : ℕ) → p < length T.processes → l < (process_at T p).locations → stuck T p l ≡ false
-
-limit-all : {A : Type 0} (bad : A → Bool) (xs : List A) → first_at (limited bad) 0 xs ≡ None → (k : ℕ) (d : A) → k < length xs → bad (get_or xs k d) ≡ false
-limit-all bad xs h k d l = cond-none (bad (get_or xs k d)) (refusal 3 Layer.Table (Place.At (0 + k))) (first_at-all (limited bad) 0 xs h k d l)
-
-all-limit : {A : Type 0} (bad : A → Bool) (xs : List A) → ((k : ℕ) (d : A) → k < length xs → bad (get_or xs k d) ≡ false) → first_at (limited bad) 0 xs ≡ None
-all-limit bad xs h = all-first_at (limited bad) 0 xs (λ k d l. rw (h k d l))
 
 location-all : (n : ℕ) (h : ℕ → ℕ → Bool) (T : Lists) → location_refused n h T.processes ≡ None → (p l : ℕ) → p < length T.processes → l < (process_at T p).locations → h p l ≡ false
 location-all n h T e p l a b =

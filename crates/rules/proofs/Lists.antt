@@ -3,11 +3,11 @@ use Rattle.std.proofs.Common.{◌≡◌, ℕ, zero, suc, ◌+◌, ◌-◌, ◌<�
 use Rattle.std.proofs.lemmas.List.{length-append, length-take-le, length-replicate, get_or-take, get_or_append_left, get_or-append_right, get_or-replicate, get_or_past}
 use Rattle.std.proofs.lemmas.Bool.{cases_Bool, cases_eq, cases_lt, or_cases, or_parts, or_from, or_left, or_right, both_ways}
 use Rattle.std.specs.List.{range_with_len, flat_map, list_any}
-use Rattle.std.specs.Option.{option_or, option_map}
 use Rattle.refusal.specs.Refusals.{first}
 use Rattle.rules.specs.Matching.{position}
 use Rattle.rules.specs.States.{numbered, padded}
-use Rattle.table.specs.Examination.{first_at, first_from}
+use Rattle.table.proofs.Passing.{none-some}
+use Rattle.table.specs.Examination.{first_from}
 
 -- an element
 
@@ -103,24 +103,6 @@ any-map f g h (x ∷ xs) e = rw (e x (inl refl), any-map f g h xs (λ y m. e y (
 
 -- the first that is refused
 
-pub none-some : {A : Type 0} {B : Type 0} (x : A) → None ≡ Some x → B
-none-some x e = let z : ◌≡◌ {A = ℕ} 0 1 = cc in absurd (omega arith)
-
-pub none-parts : {A : Type 0} (a b : Option A) → option_or a b ≡ None → (a ≡ None) × (b ≡ None)
-none-parts None b e = (refl, e)
-none-parts (Some x) b e = none-some x (sym e)
-
-pub parts_none : {A : Type 0} (a b : Option A) → a ≡ None → b ≡ None → option_or a b ≡ None
-parts_none a b p q = rw (p, q)
-
-pub cond-none : {A : Type 0} (b : Bool) (x : A) → cond b (Some x) None ≡ None → b ≡ false
-cond-none true x e = none-some x (sym e)
-cond-none false x e = refl
-
-pub mapped-none : {A B : Type 0} (f : A → B) (o : Option A) → option_map f o ≡ None → o ≡ None
-mapped-none f None e = refl
-mapped-none f (Some x) e = none-some (f x) (sym e)
-
 pub is_some-none : {A : Type 0} (o : Option A) → is_some o ≡ false → o ≡ None
 is_some-none None e = refl
 is_some-none (Some x) e = absurd (both_ways true e refl)
@@ -131,27 +113,6 @@ first-none false x ts e = (refl, e)
 
 pub none_first : {R : Type 0} (b : Bool) (x : R) (ts : List (Bool × R)) → b ≡ false → first ts ≡ None → first ((b, x) ∷ ts) ≡ None
 none_first b x ts e r = rw (e, r)
-
-pub first_at-all : {A R : Type 0} (f : ℕ → A → Option R) (i : ℕ) (xs : List A) → first_at f i xs ≡ None → (k : ℕ) (d : A) → k < length xs → f (i + k) (get_or xs k d) ≡ None
-unfolding first_at
-first_at-all f i [] e k d h = absurd (omega arith)
-first_at-all f i (x ∷ xs) e zero d h = rw add-zero (none-parts (f i x) (first_at f (i + 1) xs) e).0
-first_at-all f i (x ∷ xs) e (suc k) d (suc-le-suc h) =
-    let r = first_at-all f (i + 1) xs (none-parts (f i x) (first_at f (i + 1) xs) e).1 k d h in
-    let q : i + suc k ≡ (i + 1) + k = omega arith in
-    rw q r
-
-pub all-first_at : {A R : Type 0} (f : ℕ → A → Option R) (i : ℕ) (xs : List A) → ((k : ℕ) (d : A) → k < length xs → f (i + k) (get_or xs k d) ≡ None) → first_at f i xs ≡ None
-unfolding first_at
-all-first_at f i [] h = refl
-all-first_at f i (x ∷ xs) h =
-    let a = h 0 x (suc-le-suc zero-le) in
-    let b : f i x ≡ None = rw add-zero at a in
-    parts_none (f i x) (first_at f (i + 1) xs) b
-    (all-first_at f (i + 1) xs
-    (λ k d l.
-    let q : (i + 1) + k ≡ i + suc k = omega arith in
-    rw q (h (suc k) d (suc-le-suc l))))
 
 pub first_from-all : (h : ℕ → Bool) (i n : ℕ) → first_from h i n ≡ None → (k : ℕ) → k < n → h (i + k) ≡ false
 unfolding first_from

@@ -11,7 +11,7 @@ use Rattle.refusal.specs.Refusals.{first}
 use Rattle.rules.proofs.Calls.{state-passes, moves-alike, moves-pass}
 use Rattle.rules.proofs.Closed.{closed-length, process-closed, closed-edges-length, edge-closed}
 use Rattle.rules.proofs.Examined.{good, room-for-chaos, closed-passes}
-use Rattle.rules.proofs.Lists.{in-get_or, any_append, none-some, none-parts, parts_none, mapped-none, is_some-none, first-none, none_first, first_at-all, first_from-all, length-padded, get_or-padded, take_past}
+use Rattle.rules.proofs.Lists.{in-get_or, any_append, is_some-none, first-none, none_first, first_from-all, length-padded, get_or-padded, take_past}
 use Rattle.rules.proofs.Others.{offer-alike, discard-outer, discard-inner, expire-marked, expire-plain}
 use Rattle.rules.proofs.Ticks.{after-append, taken-append, next-taken, tick-taken}
 use Rattle.rules.proofs.Twins.{Twin, Alike, visible-same}
@@ -22,6 +22,7 @@ use Rattle.rules.specs.States.{World, idle, at, padded, begun, started, lacking,
 use Rattle.rules.specs.Steps.{no_edge, edge_at, enabled, sends, full, discards, expires, rests, restless, state_at, state_refused, move_tests, call_refused, step_refused, accepts, move_effect, effect, next}
 use Rattle.rules.specs.declared.step.Step.{Step}
 use Rattle.rules.specs.declared.step.Step.TheVariants.{Offer, Move, Discard, Expire, Tick}
+use Rattle.table.proofs.Passing.{none-some, none-parts, parts_none, mapped-none, first_at-all}
 use Rattle.table.specs.Edges.{blank}
 use Rattle.table.specs.Examination.{first_at, first_from, examined}
 use Rattle.std.specs.List.{list_any}

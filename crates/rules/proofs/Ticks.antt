@@ -9,7 +9,7 @@ use Rattle.rules.proofs.Calls.{state-passes}
 use Rattle.rules.proofs.Closed.{closed-timers-chaos, closed-timers-calm, closed-timers-least, chaos-added, rearm-added}
 use Rattle.rules.proofs.Examined.{room-for-chaos, waiting-closed}
 use Rattle.rules.proofs.Guards.{few-timers}
-use Rattle.rules.proofs.Lists.{In, in-get_or, in_all, none_in, in-none, any_append, parts_none, all-first_at, length-numbered, get_or-numbered}
+use Rattle.rules.proofs.Lists.{In, in-get_or, in_all, none_in, in-none, any_append, length-numbered, get_or-numbered}
 use Rattle.rules.proofs.Others.{retimed, rearm-taken}
 use Rattle.rules.proofs.Twins.{Standin, TimerTwin, Messages, Twin, Alike, at-put, at_other, alike-closed}
 use Rattle.rules.specs.Closing.{chaotic, closed, added, rearm, test_refused}
@@ -19,6 +19,7 @@ use Rattle.rules.specs.Steps.{no_message, rests, restless, lower, lowered, ticke
 use Rattle.rules.specs.declared.step.Message.{Message}
 use Rattle.rules.specs.declared.step.Step.{Step}
 use Rattle.rules.specs.declared.step.Step.TheVariants.{Move, Tick}
+use Rattle.table.proofs.Passing.{parts_none, all-first_at}
 use Rattle.table.specs.Lists.{Lists}
 use Rattle.table.specs.declared.record.Timer.{Timer}
 use Rattle.table.specs.declared.record.Timer.TheVariants.{Off, On}
