@@ -68,9 +68,10 @@ fn check_edges(sheet: &Sheet<'_>) -> Result<(), EdgeAt>
 }
 
 /// Reads all fields in their order and then looks at the edges. The first fault decides.
+/// What opens is what the layout writes for a table and its names, and nothing else.
 #[tactic(auto, using(reading::proofs::Inverse::inverse), unfolding(reading::specs::Opening::opened, crate::specs::Views::contents_of))]
 pub fn open_sheet(bytes: &[u8]) -> Result<Sheet<'_>, SheetFault>
-    ensures answer { result_map_both opened_of sheet_refusal result ≡ opened bytes.now }
+    ensures value { result_map_both opened_of sheet_refusal result ≡ opened bytes.now }
     ensures inverse { Inverse bytes.now }
 {
     let sheet = read_sheet(&mut Reader::at(bytes, 0))?;

@@ -12,7 +12,7 @@ unfolding opened_of
 returns-in_err-marks c =
     let p = err_from_is_err_and c.from_residual-in_err-marks.result c.from_residual-in_err-marks.ensures.1 in
     record {
-      refused = rw (p.1, p.2) (c.in_err-marks.ensures.refused ∙ ap refused_of c.in_ok-sheet.ensures.answer);
+      refused = rw (p.1, p.2) (c.in_err-marks.ensures.refused ∙ ap refused_of c.in_ok-sheet.ensures.value);
       made = IfOk-from_err c.from_residual-in_err-marks.result (Judged c.args.bytes.now) c.from_residual-in_err-marks.ensures.0;
     }
 
@@ -20,6 +20,6 @@ pub returns : goal.returns
 unfolding opened_of
 returns c =
     record {
-      refused = c.in_ok-marks.ensures.refused ∙ ap refused_of c.in_ok-sheet.ensures.answer;
-      made = subst (λ (o : Result Opened Refusal). MarkedOf o (lists_of c.in_ok-sheet.sheet) (marking c.in_ok-marks.marks)) c.in_ok-sheet.ensures.answer (refl, c.in_ok-marks.ensures.least);
+      refused = c.in_ok-marks.ensures.refused ∙ ap refused_of c.in_ok-sheet.ensures.value;
+      made = subst (λ (o : Result Opened Refusal). MarkedOf o (lists_of c.in_ok-sheet.sheet) (marking c.in_ok-marks.marks)) c.in_ok-sheet.ensures.value (refl, c.in_ok-marks.ensures.least);
     }
