@@ -3,7 +3,8 @@
 
 ghost use Rattle.std.specs.Prelude.{◌≡◌};
 ghost use Rattle.std.specs.List.{slice_get};
-ghost use Rattle.table.specs.Examination.{answer_at, edge_refused, edges_refused, examined};
+ghost use Rattle.std.specs.Option.{option_or};
+ghost use Rattle.table.specs.Examination.{answer_at, edge_refused, edges_refused, examined, limits_refused};
 ghost use Rattle.refusal.specs.Refusals.{outcome, table_refusal};
 
 use crate::bounds::check_limits;
@@ -23,9 +24,16 @@ mod location;
 pub fn examine<T: Table>(table: &T) -> Result<(), TableFault>
     ensures { outcome table_refusal result ≡ examined (T.lists table.now) }
 {
-    check_limits(table)?;
-    check_edges(table)?;
+    check_records(table)?;
     check_locations(table)
+}
+
+/// Whether every list, process, signal and edge is good by itself, and if not, what is wrong with them first.
+pub fn check_records<T: Table>(table: &T) -> Result<(), TableFault>
+    ensures { outcome table_refusal result ≡ option_or (limits_refused (T.lists table.now)) (edges_refused (T.lists table.now)) }
+{
+    check_limits(table)?;
+    check_edges(table)
 }
 
 fn check_edge<T: Table>(table: &T, k: usize) -> Result<(), TableFault>
