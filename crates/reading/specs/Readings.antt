@@ -6,10 +6,11 @@
 --   Reads f means s r t   a reader in state s returned r and is in state t then: the answer is that of f, and the bytes are the same
 --   Steps f w s r t       a reader read one record of the format f, of w bits
 --   Walks f d w n s r t   it read n of them, one behind the other; d stands for one that is refused
+--   window bs p           the number that three bytes write, from the byte of bit p on; bytes past the end are 0
 --   value_or a d          the value of an answer, or d
 --   read_at f d bs p      what f reads at bit p of bs, or d where it refuses
 --   row_at f d bs p w n   n such values, each w bits behind the one before
-use Rattle.std.specs.Prelude.{◌≡◌, ℕ, ◌+◌, ◌*◌, ◌^◌, ◌<◌, ◌≤◌, List, map, Ok, Err, Result}
+use Rattle.std.specs.Prelude.{◌≡◌, ℕ, ◌+◌, ◌*◌, ◌/◌, ◌^◌, ◌<◌, ◌≤◌, List, map, Ok, Err, Result, slice_index}
 use Rattle.std.specs.List.{range_with_len}
 use Rattle.reading.specs.Faults.{sheet_refusal}
 use Rattle.reading.specs.Formats.{Answer, Format, got, bad, many}
@@ -36,6 +37,9 @@ pub record Reads {A B : Type 0} (f : List ℕ → ℕ → Answer B) (means : A �
   pub value : told means r t.place ≡ f s.bytes.now s.place
   pub same : t.bytes.now ≡ s.bytes.now
   pub stays : Stays r t.place
+
+abbrev pub window : List ℕ → ℕ → ℕ
+window bs p = slice_index bs (p / 8) * 65536 + slice_index bs (p / 8 + 1) * 256 + slice_index bs (p / 8 + 2)
 
 abbrev pub value_or : {A : Type 0} → Answer A → A → A
 value_or (got x q) d = x

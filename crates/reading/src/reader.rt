@@ -1,9 +1,9 @@
 //! Reading fields from bytes, most significant bit first.
-ghost use Rattle.std.specs.Prelude.{◌≡◌, ◌+◌, ◌*◌, ◌^◌, ◌<◌, ◌≤◌, length, IfOk, nat_le, slice_index};
+ghost use Rattle.std.specs.Prelude.{◌≡◌, ℕ, ◌+◌, ◌*◌, ◌/◌, ◌^◌, ◌<◌, ◌≤◌, length, IfOk, nat_le, slice_index};
 ghost use Rattle.refusal.specs.declared.fault.Place.{Place};
 ghost use Rattle.reading.specs.Formats.{number, field, plain, taken};
 ghost use Rattle.reading.specs.Faults.{sheet_refusal};
-ghost use Rattle.reading.specs.Readings.{Room, Reads, Moves};
+ghost use Rattle.reading.specs.Readings.{Room, Reads, Moves, window};
 
 use crate::fault::SheetFault;
 
@@ -29,21 +29,28 @@ impl<'a> Reader<'a> {
         self.bytes.get(i).copied().unwrap_or(0)
     }
 
-    /// The next `width` bits as a number, those past the end as zeros. Three bytes hold them.
+    /// Three bytes as a number, from that of the next bit on. They hold any 16 bits from there.
+    pub fn window(&self) -> u32
+        ensures value { result ≡ window self.now.bytes.now self.now.place }
+        ensures bytes { (k : ℕ) → k < 3 → slice_index self.now.bytes.now (self.now.place / 8 + k) < 256 }
+    {
+        let first = self.place / 8;
+        u32::from_be_bytes([
+            0,
+            self.byte(first),
+            self.byte(first + 1),
+            self.byte(first + 2),
+        ])
+    }
+
+    /// The next `width` bits as a number, those past the end as zeros.
     fn peek(&self, width: usize) -> u16
         requires { width ≤ 16 }
         ensures value { result ≡ number self.now.bytes.now self.now.place width }
         ensures bound { result < 2 ^ width }
     {
-        let first = self.place / 8;
-        let window = u32::from_be_bytes([
-            0,
-            self.byte(first),
-            self.byte(first + 1),
-            self.byte(first + 2),
-        ]);
         let below = 24 - self.place % 8 - width;
-        ((window >> below) & ((1 << width) - 1)) as u16
+        ((self.window() >> below) & ((1 << width) - 1)) as u16
     }
 
     /// Whether the bytes go on for `width` bits.

@@ -1,4 +1,4 @@
-use Rattle.std.proofs.Common.{◌≡◌, ◌+◌, ◌-◌, ◌*◌, ◌/◌, ◌%◌, ◌^◌, sym, ◌∙◌, arith}
+use Rattle.std.proofs.Common.{◌≡◌, ◌-◌, ◌*◌, ◌/◌, ◌%◌, ◌^◌, refl, sym, ◌∙◌, arith, add-zero}
 use lib.Bits.{bit_and}
 use Rattle.reading.specs.Formats.{number}
 use Rattle.reading.proofs.Numbers.{number-window, number-below, masked}
@@ -10,8 +10,8 @@ returns c =
     let p = c.args.self.now.place in
     let w = c.args.width in
     let r = 24 - p % 8 - w in
-    let m = masked (c.from_be_bytes-window.result / 2 ^ r) w (omega arith) in
-    let e = number-window bs p w r c.byte.result c.byte-2.result c.byte-3.result (omega arith) c.byte.ensures c.byte-2.ensures c.byte-3.ensures (omega arith) (omega arith) (omega arith) in
-    let f : c.from_be_bytes-window.result ≡ c.byte.result * 65536 + c.byte-2.result * 256 + c.byte-3.result = omega arith in
-    let v : bit_and (c.from_be_bytes-window.result / 2 ^ r) (1 * 2 ^ w % 4294967296 - 1) ≡ number bs p w = m ∙ rw f (sym e) in
+    let m = masked (c.window.result / 2 ^ r) w (omega arith) in
+    let small = c.window.ensures.bytes in
+    let e = number-window bs p w r _ _ _ (omega arith) refl refl refl (rw add-zero at (small 0 (omega arith))) (small 1 (omega arith)) (small 2 (omega arith)) in
+    let v : bit_and (c.window.result / 2 ^ r) (1 * 2 ^ w % 4294967296 - 1) ≡ number bs p w = m ∙ rw c.window.ensures.value (sym e) in
     record { value = v; bound = rw v (number-below bs p w) }
