@@ -51,3 +51,6 @@ writes_join {fs} {gs} {s} {t} {u} {x} {y} {z} h k =
       beyond = λ i le'. k.beyond i le' ∙ h.beyond i (omega arith);
       size = k.size ∙ h.size;
     }
+
+pub writes_more : {f : Field} {gs : List Field} {s t u : ℕ} {x y z : List ℕ} → Writes (f ∷ []) s t x y → Writes gs t u y z → Writes (f ∷ gs) s u x z
+writes_more h k = writes_join h k

@@ -1,13 +1,19 @@
 -- What a writer does to the bytes that it is lent.
 --   patched W r w v         the number W with v in the w bits that r bits follow
+--   AreNarrow fs            each of the fields fs writes a number that its bits hold
 --   Writes fs s t old new   from bit s on it wrote the fields fs, and stands at bit t then: old are the bytes before, new after.
 --                           What lies before bit s is as before, and so are the bytes behind bit t
-use Rattle.std.specs.Prelude.{◌≡◌, ℕ, ◌+◌, ◌*◌, ◌/◌, ◌%◌, ◌^◌, ◌<◌, ◌≤◌, List, length, slice_index}
-use Rattle.reading.specs.Formats.{Field, bit}
+use Rattle.std.specs.Prelude.{◌≡◌, ℕ, ◌+◌, ◌*◌, ◌/◌, ◌%◌, ◌^◌, ◌<◌, ◌≤◌, List, [], ◌∷◌, length, slice_index}
+use Rattle.reading.specs.Formats.{Field, bit, bits, fill}
 use Rattle.reading.specs.Spelling.{Spells, ends}
 
 abbrev pub patched : ℕ → ℕ → ℕ → ℕ → ℕ
 patched W r w v = W / 2 ^ (r + w) * 2 ^ (r + w) + v * 2 ^ r + W % 2 ^ r
+
+abbrev pub AreNarrow : List Field → Type 0
+AreNarrow [] = Unit {0}
+AreNarrow (bits w v ∷ fs) = (v < 2 ^ w) × AreNarrow fs
+AreNarrow (fill ∷ fs) = AreNarrow fs
 
 -- what would lie behind the last byte is not written
 pub record Writes (fs : List Field) (s t : ℕ) (old new : List ℕ) : Type 0 where

@@ -1,4 +1,5 @@
 //! Writing any table with names as a sheet.
 #![tactic(auto)]
 
+pub mod records;
 pub mod writer;

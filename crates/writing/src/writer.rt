@@ -39,7 +39,8 @@ impl Writer {
         requires width { width ≤ 16 }
         requires narrow { value < 2 ^ width }
         requires room { self.old.place + width < 2 ^ 64 }
-        ensures { Writes (bits width value ∷ []) self.old.place self.new.place bytes.old bytes.new }
+        ensures place { self.new.place ≡ self.old.place + width }
+        ensures writes { Writes (bits width value ∷ []) self.old.place self.new.place bytes.old bytes.new }
     {
         let first = self.place / 8;
         let below = 24 - self.place % 8 - width;

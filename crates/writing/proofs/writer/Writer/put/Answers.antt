@@ -4,8 +4,8 @@ use Rattle.reading.specs.Readings.{window}
 use Rattle.writing.proofs.Places.{stored-from, writes_put}
 use Rattle.writing.proofs.writer.Writer.put.Goals as goal
 
-pub returns : goal.returns
-returns c =
+pub returns-clause-writes : goal.returns-clause-writes
+returns-clause-writes c =
     let bs = c.args.bytes.now in
     let p = c.args.self.now.place in
     let w = c.args.width in
