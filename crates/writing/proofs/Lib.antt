@@ -1,3 +1,5 @@
 pub mod Joins
 pub mod Places
+pub mod Processes
+pub mod Rows
 pub mod Windows

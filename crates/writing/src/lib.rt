@@ -1,5 +1,6 @@
 //! Writing any table with names as a sheet.
 #![tactic(auto)]
 
+pub mod parts;
 pub mod records;
 pub mod writer;

@@ -1,12 +1,16 @@
 //! The records of a sheet, each written field by field.
-ghost use Rattle.std.specs.Prelude.{◌≡◌, ℕ, ◌+◌, ◌*◌, ◌^◌, ◌<◌, ◌≤◌};
+ghost use Rattle.std.specs.Prelude.{◌≡◌, ℕ, ◌+◌, ◌*◌, ◌^◌, ◌<◌, ◌≤◌, false, FitsSigned};
+ghost use Rattle.std.specs.Int.{w16};
 ghost use Rattle.reading.specs.Formats.{signed};
 ghost use Rattle.reading.specs.Layout.{header_format, signal_format, span_format, edge_format, term_format, timer_format, process_format};
+ghost use Rattle.reading.specs.Spelling.{FitsProcess, FitsTerm};
+ghost use Rattle.table.specs.Examination.{bad_process};
+ghost use Rattle.table.specs.Lists.{meant};
 ghost use Rattle.writing.specs.Writes.{AreNarrow, Writes};
 
 use crate::writer::Writer;
 use reading::records::Counts;
-use table::record::{Edge, Signal, Span, Term, Timer};
+use table::record::{Edge, Process, Signal, Span, Term, Timer};
 
 impl Writer {
     #[tactic(auto, unfolding(reading::specs::Layout::header_format))]
@@ -39,6 +43,7 @@ impl Writer {
     fn integer(&mut self, bytes: &mut [u8], value: i16)
         requires room { self.old.place + 16 < 2 ^ 64 }
         ensures place { self.new.place ≡ self.old.place + 16 }
+        ensures fits { FitsSigned w16 value }
         ensures writes { Writes (signed.writes value) self.old.place self.new.place bytes.old bytes.new }
     {
         self.put(bytes, 16, value.cast_unsigned());
@@ -67,11 +72,11 @@ impl Writer {
     }
 
     #[tactic(auto, unfolding(reading::specs::Layout::edge_format, reading::specs::Layout::span_format))]
-    pub fn edge(&mut self, bytes: &mut [u8], edge: &Edge)
+    pub fn edge(&mut self, bytes: &mut [u8], edge: Edge)
         requires room { self.old.place + 60 < 2 ^ 64 }
-        requires narrow { AreNarrow (edge_format.writes edge.now) }
+        requires narrow { AreNarrow (edge_format.writes edge) }
         ensures place { self.new.place ≡ self.old.place + 60 }
-        ensures writes { Writes (edge_format.writes edge.now) self.old.place self.new.place bytes.old bytes.new }
+        ensures writes { Writes (edge_format.writes edge) self.old.place self.new.place bytes.old bytes.new }
     {
         self.put(bytes, 3, edge.process as u16);
         self.put(bytes, 4, edge.from as u16);
@@ -97,5 +102,23 @@ impl Writer {
         };
         self.put(bytes, 1, on);
         self.put(bytes, 15, ticks);
+    }
+
+    /// A process. Its values and timers beyond the counts are not written.
+    pub fn process(&mut self, bytes: &mut [u8], process: Process)
+        requires room { self.old.place + 4096 < 2 ^ 64 }
+        requires good { bad_process (meant process) ≡ false }
+        ensures bound { self.new.place ≤ self.old.place + 272 }
+        ensures fits { FitsProcess (meant process) }
+        ensures writes { Writes (process_format.writes (meant process)) self.old.place self.new.place bytes.old bytes.new }
+    {
+        self.put(bytes, 4, process.locations as u16 - 1);
+        self.put(bytes, 4, process.variables as u16);
+        self.put(bytes, 4, process.timers as u16);
+        self.put(bytes, 4, process.first as u16);
+        let variables = usize::from(process.variables);
+        self.row(bytes, variables, |k| process.values[k], Writer::integer);
+        let timers = usize::from(process.timers);
+        self.row(bytes, timers, |k| process.settings[k], Writer::timer);
     }
 }

@@ -1,7 +1,7 @@
 //! Writing fields to bytes, most significant bit first.
-ghost use Rattle.std.specs.Prelude.{◌≡◌, ◌+◌, ◌*◌, ◌/◌, ◌%◌, ◌^◌, ◌<◌, ◌≤◌, [], ◌∷◌, slice_set};
-ghost use Rattle.reading.specs.Formats.{bits};
-ghost use Rattle.writing.specs.Writes.{Writes, patched};
+ghost use Rattle.std.specs.Prelude.{◌≡◌, ℕ, ◌+◌, ◌*◌, ◌/◌, ◌%◌, ◌^◌, ◌<◌, ◌≤◌, List, [], ◌∷◌, slice_set};
+ghost use Rattle.reading.specs.Formats.{Field, bits};
+ghost use Rattle.writing.specs.Writes.{Writes, patched, fields_below};
 
 use reading::reader::Reader;
 
@@ -50,5 +50,27 @@ impl Writer {
         store(bytes, first + 1, b);
         store(bytes, first + 2, c);
         self.place += width;
+    }
+
+    /// What `write` writes of what `read` gives at the numbers below `count`, one behind the other.
+    pub(crate) fn row<R, G: Fn(usize) -> R, F: Fn(&mut Writer, &mut [u8], R)>(
+        &mut self,
+        bytes: &mut [u8],
+        count: usize,
+        read: G,
+        write: F,
+    )
+        requires readable { (k : ℕ) → k < count → G.pre read k }
+        requires writable { (k : ℕ) (r : R) (s x : _) → k < count → G.post read k r → s.now.place ≤ self.old.place + 272 * count → F.pre write s x r }
+        requires narrow { (r : R) (s x t y : _) → F.post write s x r tt t y → t.now.place ≤ s.now.place + 272 }
+        ensures bound { (w : ℕ) → ((r : R) (s x t y : _) → F.post write s x r tt t y → t.now.place ≤ s.now.place + w) → self.new.place ≤ self.old.place + w * count }
+        ensures calls { (k : ℕ) → k < count → (r : R) × (s x t y : _) × G.post read k r × F.post write s x r tt t y }
+        ensures writes { (fs : ℕ → List Field)
+            → ((k : ℕ) (r : R) (s x t y : _) → k < count → G.post read k r → F.post write s x r tt t y → Writes (fs k) s.now.place t.now.place x.now y.now)
+            → Writes (fields_below fs count) self.old.place self.new.place bytes.old bytes.new }
+    {
+        for k in 0..count {
+            write(self, bytes, read(k));
+        }
     }
 }

@@ -1,6 +1,6 @@
 use Rattle.std.proofs.Common.{◌≡◌, ℕ, Bool, true, false, cond, [], ◌∷◌, nat_le, refl}
-use Rattle.reading.specs.Formats.{Format, bits, field}
-use Rattle.reading.specs.Layout.{destination, signal_format}
+use Rattle.reading.specs.Formats.{bits, field}
+use Rattle.reading.specs.Layout.{signal_format}
 use Rattle.writing.proofs.Joins.{writes_join}
 use Rattle.writing.proofs.writer.Writer.signal.Goals as goal
 

@@ -1,0 +1,26 @@
+-- The fields of a row of records.
+use Rattle.std.proofs.Common.{◌≡◌, ℕ, zero, suc, ◌+◌, ◌≤◌, List, [], ◌++◌, length, get_or, take, refl, sym, ap, ◌∙◌, add-one, arith}
+use Rattle.std.specs.List.{flat_map}
+use Rattle.std.proofs.lemmas.List.{flat_map_more, take_more}
+use Rattle.reading.specs.Formats.{Field}
+use Rattle.writing.specs.Writes.{Writes, fields_below}
+use Rattle.writing.proofs.Joins.{writes_none, writes_join}
+
+fields_below-more : (fs : ℕ → List Field) (n : ℕ) → fields_below fs (n + 1) ≡ fields_below fs n ++ fs n
+unfolding fields_below
+fields_below-more fs n = rw add-one refl
+
+pub row_none : (fs : ℕ → List Field) (s : ℕ) (bs : List ℕ) → Writes (fields_below fs 0) s s bs bs
+unfolding fields_below
+row_none fs s bs = writes_none s bs
+
+pub row_more : (fs : ℕ → List Field) (n : ℕ) {s t u : ℕ} {x y z : List ℕ} → Writes (fields_below fs n) s t x y → Writes (fs n) t u y z → Writes (fields_below fs (n + 1)) s u x z
+row_more fs n h k = rw fields_below-more (writes_join h k)
+
+-- the records of a list
+pub fields_below-list : {A : Type 0} (g : A → List Field) (d : A) (xs : List A) (n : ℕ) → n ≤ length xs → fields_below (λ k. g (get_or xs k d)) n ≡ flat_map g (take n xs)
+unfolding fields_below
+fields_below-list g d xs zero le = refl
+fields_below-list g d xs (suc n) le =
+    ap (λ fs. fs ++ g (get_or xs n d)) (fields_below-list g d xs n (omega arith)) ∙ flat_map_more g [] (take n xs) (get_or xs n d) ∙
+    ap (flat_map g) (sym (take_more xs n d (omega arith)) ∙ ap (λ k. take k xs) (add-one n))
