@@ -1,5 +1,7 @@
+pub mod Edges
 pub mod Joins
 pub mod Places
 pub mod Processes
 pub mod Rows
+pub mod Tables
 pub mod Windows
