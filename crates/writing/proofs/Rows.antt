@@ -1,7 +1,9 @@
 -- The fields of a row of records.
-use Rattle.std.proofs.Common.{◌≡◌, ℕ, zero, suc, ◌+◌, ◌≤◌, List, [], ◌++◌, length, get_or, take, refl, sym, ap, ◌∙◌, add-one, arith}
-use Rattle.std.specs.List.{flat_map}
-use Rattle.std.proofs.lemmas.List.{flat_map_more, take_more}
+use Rattle.std.proofs.Common.{◌≡◌, ℕ, zero, suc, ◌+◌, ◌≤◌, List, [], ◌++◌, length, get_or, take, Some, None, Option, refl, sym, ap, ◌∙◌, add-one, arith}
+use Rattle.std.specs.List.{flat_map, slice_get}
+use Rattle.std.specs.Option.{UnwrapsOrElse, unwrap_or}
+use Rattle.std.proofs.lemmas.List.{flat_map_more, take_all, take_more}
+use Rattle.std.proofs.lemmas.Option.{unwrap_or-slice_get}
 use Rattle.reading.specs.Formats.{Field}
 use Rattle.writing.specs.Writes.{Writes, fields_below}
 use Rattle.writing.proofs.Joins.{writes_none, writes_join}
@@ -24,3 +26,16 @@ fields_below-list g d xs zero le = refl
 fields_below-list g d xs (suc n) le =
     ap (λ fs. fs ++ g (get_or xs n d)) (fields_below-list g d xs n (omega arith)) ∙ flat_map_more g [] (take n xs) (get_or xs n d) ∙
     ap (flat_map g) (sym (take_more xs n d (omega arith)) ∙ ap (λ k. take k xs) (add-one n))
+
+-- an element of a list, or the default d where there is none
+pub read-or : {A : Type 0} (xs : List A) (k : ℕ) (d : A) (o : Option A) (D : A → Type 0) (r : A) → o ≡ slice_get xs k → UnwrapsOrElse o D r → (D r → r ≡ d) → r ≡ get_or xs k d
+read-or xs k d o D r e u h = unwrapped o u ∙ ap (λ o. unwrap_or o d) e ∙ unwrap_or-slice_get xs k d
+  where
+    unwrapped : (o : Option _) → UnwrapsOrElse o D r → r ≡ unwrap_or o d
+    unwrapped None u = h u
+    unwrapped (Some x) u = u
+
+pub row_all : {A : Type 0} (g : A → List Field) (d : A) (xs : List A) (n : ℕ) {s t : ℕ} {x y : List ℕ} → n ≡ length xs → Writes (fields_below (λ k. g (get_or xs k d)) n) s t x y → Writes (flat_map g xs) s t x y
+row_all g d xs n e h =
+    let all : fields_below (λ k. g (get_or xs k d)) n ≡ flat_map g xs = fields_below-list g d xs n (omega arith) ∙ ap (flat_map g) (take_all n xs (omega arith)) in
+    rw all at h

@@ -54,6 +54,7 @@ impl Writer {
         requires room { self.old.place + 20 < 2 ^ 64 }
         requires narrow { term.operation ≤ 15 }
         ensures place { self.new.place ≡ self.old.place + 20 }
+        ensures fits { FitsTerm term }
         ensures writes { Writes (term_format.writes term) self.old.place self.new.place bytes.old bytes.new }
     {
         self.put(bytes, 4, term.operation as u16);
