@@ -1,6 +1,6 @@
 -- Fields written one after the other.
-use Rattle.std.proofs.Common.{◌≡◌, ℕ, zero, suc, ◌+◌, ◌<◌, ◌≤◌, List, [], ◌∷◌, ◌++◌, sym, refl, ◌∙◌, arith}
-use Rattle.reading.specs.Formats.{Field, bit, number}
+use Rattle.std.proofs.Common.{◌≡◌, ℕ, zero, suc, ◌+◌, ◌-◌, ◌%◌, ◌<◌, ◌≤◌, List, [], ◌∷◌, ◌++◌, sym, refl, ◌∙◌, arith}
+use Rattle.reading.specs.Formats.{Field, bit, bits, fill, number}
 use Rattle.reading.specs.Spelling.{Spells, ends, width}
 use Rattle.reading.proofs.Numbers.{number-none, number_more}
 use Rattle.writing.specs.Writes.{Writes}
@@ -54,3 +54,8 @@ writes_join {fs} {gs} {s} {t} {u} {x} {y} {z} h k =
 
 pub writes_more : {f : Field} {gs : List Field} {s t u : ℕ} {x y z : List ℕ} → Writes (f ∷ []) s t x y → Writes gs t u y z → Writes (f ∷ gs) s u x z
 writes_more h k = writes_join h k
+
+-- the fill is a field of as many zero bits
+pub writes_fill : {s t : ℕ} {x y : List ℕ} → Writes (bits ((8 - s % 8) % 8) 0 ∷ []) s t x y → Writes (fill ∷ []) s t x y
+unfolding ends Spells
+writes_fill h = record { place = h.place; fields = h.fields; before = h.before; beyond = h.beyond; size = h.size }

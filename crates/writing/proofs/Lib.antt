@@ -1,3 +1,4 @@
+pub mod Copies
 pub mod Edges
 pub mod Joins
 pub mod Places

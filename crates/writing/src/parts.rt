@@ -1,6 +1,7 @@
 //! The parts of a sheet: rows of records, the fill and the names.
-ghost use Rattle.std.specs.Prelude.{◌≡◌, ℕ, ◌+◌, ◌*◌, ◌^◌, ◌<◌, ◌≤◌, length, None, slice_index_or};
+ghost use Rattle.std.specs.Prelude.{◌≡◌, ℕ, ◌+◌, ◌*◌, ◌/◌, ◌%◌, ◌^◌, ◌<◌, ◌≤◌, [], ◌∷◌, length, map, None, slice_index_or};
 ghost use Rattle.std.specs.List.{All, flat_map};
+ghost use Rattle.reading.specs.Formats.{bits, fill};
 ghost use Rattle.reading.specs.Layout.{process_format, signal_format, edge_format, term_format};
 ghost use Rattle.reading.specs.Rows.{no_edge, no_term};
 ghost use Rattle.reading.specs.Spelling.{FitsProcess, FitsTerm};
@@ -84,5 +85,27 @@ impl Writer {
             |i| term_or_zeros(table, i),
             Writer::term,
         );
+    }
+
+    /// Zero bits up to the next whole byte.
+    fn fill(&mut self, bytes: &mut [u8])
+        requires room { self.old.place < 2 ^ 32 }
+        ensures place { self.new.place ≡ (self.old.place + 7) / 8 * 8 }
+        ensures writes { Writes (fill ∷ []) self.old.place self.new.place bytes.old bytes.new }
+    {
+        self.put(bytes, (8 - self.place % 8) % 8, 0);
+    }
+
+    /// Bytes as they are, from a whole byte on.
+    fn copy(&mut self, bytes: &mut [u8], names: &[u8])
+        requires whole_byte { self.old.place % 8 ≡ 0 }
+        requires few { length names.now < 2 ^ 16 }
+        requires room { self.old.place < 2 ^ 32 }
+        requires fits { self.old.place / 8 + length names.now ≤ length bytes.old }
+        ensures writes { Writes (map (bits 8) names.now) self.old.place self.new.place bytes.old bytes.new }
+    {
+        let start = self.place / 8;
+        bytes[start..start + names.len()].copy_from_slice(names);
+        self.place += 8 * names.len();
     }
 }
