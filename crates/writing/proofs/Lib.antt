@@ -1,3 +1,4 @@
+pub mod Areas
 pub mod Copies
 pub mod Edges
 pub mod Joins
