@@ -81,3 +81,6 @@ module _ (T : Lists) (limits : limits_refused T ≡ None) where
       let e = few-edges in
       let t = few-terms in
       (omega arith, (omega arith, (omega arith, (omega arith, (omega arith, tt)))))
+
+-- how many records a table has that passes its checks
+pub ruleset few_records = (few-processes, few-signals, few-edges, few-terms)
