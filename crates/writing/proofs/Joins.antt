@@ -5,7 +5,7 @@ use Rattle.reading.specs.Spelling.{Spells, ends, width}
 use Rattle.reading.proofs.Numbers.{number-none, number_more}
 use Rattle.writing.specs.Writes.{Writes}
 
-ends-append : (p : ℕ) (fs gs : List Field) → ends p (fs ++ gs) ≡ ends (ends p fs) gs
+pub ends-append : (p : ℕ) (fs gs : List Field) → ends p (fs ++ gs) ≡ ends (ends p fs) gs
 unfolding ends
 ends-append p [] gs = refl
 ends-append p (f ∷ fs) gs = ends-append (p + width p f) fs gs

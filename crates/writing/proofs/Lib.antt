@@ -5,5 +5,6 @@ pub mod Joins
 pub mod Places
 pub mod Processes
 pub mod Rows
+pub mod Sizes
 pub mod Tables
 pub mod Windows

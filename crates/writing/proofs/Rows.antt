@@ -1,10 +1,12 @@
 -- The fields of a row of records.
-use Rattle.std.proofs.Common.{◌≡◌, ℕ, zero, suc, ◌+◌, ◌≤◌, List, [], ◌++◌, length, get_or, take, Some, None, Option, refl, sym, ap, ◌∙◌, add-one, arith}
+use Rattle.std.proofs.Common.{◌≡◌, ℕ, zero, suc, ◌+◌, ◌-◌, Bool, true, false, cond, nat_le, ◌∷◌, ◌≤◌, List, [], ◌++◌, length, get_or, take, Some, None, Option, refl, sym, ap, ◌∙◌, add-one, arith}
 use Rattle.std.specs.List.{flat_map, slice_get}
 use Rattle.std.specs.Option.{UnwrapsOrElse, unwrap_or}
 use Rattle.std.proofs.lemmas.List.{flat_map_more, take_all, take_more}
 use Rattle.std.proofs.lemmas.Option.{unwrap_or-slice_get}
-use Rattle.reading.specs.Formats.{Field}
+use Rattle.reading.specs.Formats.{Field, bits, field}
+use Rattle.reading.specs.Layout.{signal_format}
+use Rattle.table.specs.declared.record.Signal.{Signal}
 use Rattle.writing.specs.Writes.{Writes, fields_below}
 use Rattle.writing.proofs.Joins.{writes_none, writes_join}
 
@@ -39,3 +41,12 @@ pub row_all : {A : Type 0} (g : A → List Field) (d : A) (xs : List A) (n : ℕ
 row_all g d xs n e h =
     let all : fields_below (λ k. g (get_or xs k d)) n ≡ flat_map g xs = fields_below-list g d xs n (omega arith) ∙ ap (flat_map g) (take_all n xs (omega arith)) in
     rw all at h
+
+-- a signal is written alike whatever the number of processes
+pub signal-writes : (n : ℕ) (s : Signal) → (signal_format n).writes s ≡ bits 3 s.class ∷ bits 3 s.destination ∷ []
+unfolding signal_format
+signal-writes n s = go (nat_le s.class 1)
+  where
+    go : (b : Bool) → bits 3 s.class ∷ (cond b (field 3 0 (n - 1) 3) (field 3 0 0 4)).writes s.destination ++ [] ≡ bits 3 s.class ∷ bits 3 s.destination ∷ []
+    go true = refl
+    go false = refl
