@@ -5,6 +5,7 @@ pub mod Joins
 pub mod Places
 pub mod Processes
 pub mod Rows
+pub mod Sheets
 pub mod Sizes
 pub mod Tables
 pub mod Windows

@@ -5,4 +5,5 @@ mod checks;
 pub mod fault;
 pub mod parts;
 pub mod records;
+pub mod write;
 pub mod writer;

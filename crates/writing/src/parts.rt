@@ -27,8 +27,16 @@ fn term_or_zeros<T: Table>(table: &T, i: usize) -> Term
     table.term(i).unwrap_or_default()
 }
 
+/// Bytes as they are, from byte `at` on.
+pub fn copy(bytes: &mut [u8], at: usize, names: &[u8])
+    requires { at + length names.now ≤ length bytes.old }
+    ensures { Writes (map (bits 8) names.now) (8 * at) (8 * at + 8 * length names.now) bytes.old bytes.new }
+{
+    bytes[at..at + names.len()].copy_from_slice(names);
+}
+
 impl Writer {
-    fn processes<T: Table>(&mut self, bytes: &mut [u8], table: &T)
+    pub fn processes<T: Table>(&mut self, bytes: &mut [u8], table: &T)
         requires room { self.old.place < 2 ^ 32 }
         requires limits { limits_refused (T.lists table.now) ≡ None }
         ensures bound { self.new.place ≤ self.old.place + 272 * length (T.lists table.now).processes }
@@ -43,7 +51,7 @@ impl Writer {
         );
     }
 
-    fn signals<T: Table>(&mut self, bytes: &mut [u8], table: &T)
+    pub fn signals<T: Table>(&mut self, bytes: &mut [u8], table: &T)
         requires room { self.old.place < 2 ^ 32 }
         requires limits { limits_refused (T.lists table.now) ≡ None }
         ensures bound { self.new.place ≤ self.old.place + 6 * length (T.lists table.now).signals }
@@ -57,7 +65,7 @@ impl Writer {
         );
     }
 
-    fn edges<T: Table>(&mut self, bytes: &mut [u8], table: &T)
+    pub fn edges<T: Table>(&mut self, bytes: &mut [u8], table: &T)
         requires room { self.old.place < 2 ^ 32 }
         requires limits { limits_refused (T.lists table.now) ≡ None }
         requires edges { edges_refused (T.lists table.now) ≡ None }
@@ -72,7 +80,7 @@ impl Writer {
         );
     }
 
-    fn terms<T: Table>(&mut self, bytes: &mut [u8], table: &T)
+    pub fn terms<T: Table>(&mut self, bytes: &mut [u8], table: &T)
         requires room { self.old.place < 2 ^ 32 }
         requires limits { limits_refused (T.lists table.now) ≡ None }
         ensures bound { self.new.place ≤ self.old.place + 20 * length (T.lists table.now).terms }
@@ -88,24 +96,11 @@ impl Writer {
     }
 
     /// Zero bits up to the next whole byte.
-    fn fill(&mut self, bytes: &mut [u8])
+    pub fn fill(&mut self, bytes: &mut [u8])
         requires room { self.old.place < 2 ^ 32 }
         ensures place { self.new.place ≡ (self.old.place + 7) / 8 * 8 }
         ensures writes { Writes (fill ∷ []) self.old.place self.new.place bytes.old bytes.new }
     {
         self.put(bytes, (8 - self.place % 8) % 8, 0);
-    }
-
-    /// Bytes as they are, from a whole byte on.
-    fn copy(&mut self, bytes: &mut [u8], names: &[u8])
-        requires whole_byte { self.old.place % 8 ≡ 0 }
-        requires few { length names.now < 2 ^ 16 }
-        requires room { self.old.place < 2 ^ 32 }
-        requires fits { self.old.place / 8 + length names.now ≤ length bytes.old }
-        ensures writes { Writes (map (bits 8) names.now) self.old.place self.new.place bytes.old bytes.new }
-    {
-        let start = self.place / 8;
-        bytes[start..start + names.len()].copy_from_slice(names);
-        self.place += 8 * names.len();
     }
 }

@@ -1,0 +1,48 @@
+//! Writing a table with names as a sheet.
+ghost use Rattle.std.specs.Prelude.{◌≡◌, ℕ, ◌*◌, ◌≤◌, List, length, take, drop, None, IfOk, OnErr};
+ghost use Rattle.std.specs.Result.{result_map_both};
+ghost use Rattle.reading.specs.Layout.{sheet_format, counts_of};
+ghost use Rattle.reading.specs.Spelling.{AreBytes, FitsRecords, area_of};
+ghost use Rattle.table.specs.Examination.{edges_refused, limits_refused};
+ghost use Rattle.writing.specs.Faults.{write_refusal};
+ghost use Rattle.writing.specs.Writes.{Writes};
+ghost use Rattle.writing.specs.Written.{IsWrittenAs, needed, written};
+
+use crate::checks::check;
+use crate::fault::WriteFault;
+use crate::parts::copy;
+use crate::writer::Writer;
+use reading::records::Counts;
+use table::questions::Table;
+
+/// What a header says of the table.
+#[tactic(auto, using(crate::proofs::Tables::few_records))]
+fn counts<T: Table>(table: &T) -> Counts
+    requires { limits_refused (T.lists table.now) ≡ None }
+    ensures { result ≡ counts_of (T.lists table.now) }
+{
+    Counts {
+        processes: table.process_count() as u8,
+        signals: table.signal_count() as u8,
+        edges: table.edge_count() as u16,
+        terms: table.term_count() as u16,
+    }
+}
+
+/// All fields of the sheet.
+fn put_sheet<T: Table>(bytes: &mut [u8], table: &T, names: &[u8])
+    requires limits { limits_refused (T.lists table.now) ≡ None }
+    requires edges { edges_refused (T.lists table.now) ≡ None }
+    requires room { needed (T.lists table.now) names.now ≤ length bytes.old }
+    ensures records { FitsRecords (T.lists table.now) }
+    ensures writes { (texts : List (List ℕ)) → names.now ≡ area_of texts → Writes (sheet_format.writes (record { lists = T.lists table.now; names = texts })) 0 (8 * needed (T.lists table.now) names.now) bytes.old bytes.new }
+{
+    let mut writer = Writer { place: 0 };
+    writer.header(bytes, counts(table));
+    writer.processes(bytes, table);
+    writer.signals(bytes, table);
+    writer.edges(bytes, table);
+    writer.terms(bytes, table);
+    writer.fill(bytes);
+    copy(bytes, writer.place / 8, names);
+}
