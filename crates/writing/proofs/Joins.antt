@@ -26,7 +26,7 @@ number-bits xs ys p zero same = number-none xs p ∙ sym (number-none ys p)
 number-bits xs ys p (suc w) same =
     omega (arith, number_more xs p w, number_more ys p w, same (p + w) (omega arith), number-bits xs ys p w (λ i lt. same i (omega arith)))
 
-spells-kept : (xs ys : List ℕ) (p : ℕ) (fs : List Field) → ((i : ℕ) → i < ends p fs → bit xs i ≡ bit ys i) → Spells ys p fs → Spells xs p fs
+pub spells-kept : (xs ys : List ℕ) (p : ℕ) (fs : List Field) → ((i : ℕ) → i < ends p fs → bit xs i ≡ bit ys i) → Spells ys p fs → Spells xs p fs
 unfolding ends Spells
 spells-kept xs ys p [] same h = h
 spells-kept xs ys p (f ∷ fs) same h = (

@@ -8,4 +8,5 @@ pub mod Rows
 pub mod Sheets
 pub mod Sizes
 pub mod Tables
+pub mod Wholes
 pub mod Windows

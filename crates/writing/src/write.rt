@@ -46,3 +46,22 @@ fn put_sheet<T: Table>(bytes: &mut [u8], table: &T, names: &[u8])
     writer.fill(bytes);
     copy(bytes, writer.place / 8, names);
 }
+
+/// Writes the sheet of the table, with the names of its processes and then its signals, to the start of the output.
+/// Nothing is written where anything is refused.
+pub fn write_sheet<T: Table>(
+    table: &T,
+    names: &[u8],
+    output: &mut [u8],
+) -> Result<usize, WriteFault>
+    ensures answer { result_map_both (λ n. n) write_refusal result ≡ written (T.lists table.now) names.now (length output.old) }
+    ensures sheet { IfOk result (λ n. IsWrittenAs (T.lists table.now) names.now (take n output.new)) }
+    ensures bytes { IfOk result (λ n. AreBytes (take n output.new)) }
+    ensures beyond { IfOk result (λ n. drop n output.new ≡ drop n output.old) }
+    ensures size { length output.new ≡ length output.old }
+    ensures refused { OnErr result (output.new ≡ output.old) }
+{
+    let size = check(table, names, output.len())?;
+    put_sheet(output, table, names);
+    Ok(size)
+}

@@ -1,0 +1,31 @@
+use Rattle.std.proofs.Common.{length, arith}
+use Rattle.writing.proofs.Wholes.{drop-written, is-written, written-passed}
+use Rattle.writing.proofs.write.write_sheet.Goals as goal
+
+pub put_sheet-requires-clause-limits : goal.put_sheet-requires-clause-limits
+put_sheet-requires-clause-limits g c =
+    (written-passed (g.T.Table.lists c.args.table.now) c.args.names.now (length c.args.output.now) c.in_ok-size.size c.in_ok-size.ensures).limits
+
+pub put_sheet-requires-clause-edges : goal.put_sheet-requires-clause-edges
+put_sheet-requires-clause-edges g c =
+    (written-passed (g.T.Table.lists c.args.table.now) c.args.names.now (length c.args.output.now) c.in_ok-size.size c.in_ok-size.ensures).edges
+
+pub put_sheet-requires-clause-room : goal.put_sheet-requires-clause-room
+put_sheet-requires-clause-room g c =
+    (written-passed (g.T.Table.lists c.args.table.now) c.args.names.now (length c.args.output.now) c.in_ok-size.size c.in_ok-size.ensures).fits
+
+pub returns-clause-sheet : goal.returns-clause-sheet
+returns-clause-sheet g c =
+    let T = g.T.Table.lists c.args.table.now in
+    let area = c.args.names.now in
+    let old = c.args.output.now in
+    let passed = written-passed T area (length old) c.in_ok-size.size c.in_ok-size.ensures in
+    is-written T area old c.put_sheet.new.bytes c.in_ok-size.size passed (λ i. omega (arith, c.type_inv.names i)) c.put_sheet.ensures.writes c.put_sheet.ensures.records
+
+pub returns-clause-beyond : goal.returns-clause-beyond
+returns-clause-beyond g c =
+    let T = g.T.Table.lists c.args.table.now in
+    let area = c.args.names.now in
+    let old = c.args.output.now in
+    let passed = written-passed T area (length old) c.in_ok-size.size c.in_ok-size.ensures in
+    drop-written T area old c.put_sheet.new.bytes c.in_ok-size.size passed (λ i. omega (arith, c.type_inv.names i)) c.put_sheet.ensures.writes
