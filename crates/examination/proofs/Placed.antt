@@ -10,7 +10,8 @@ use Rattle.examination.specs.Locations.{has_at}
 use Rattle.examination.proofs.Nearest.{location-cong, first_passes, passes-parts}
 use Rattle.examination.proofs.Raised.{Raised}
 
-not-refused : {R : Type 0} (b : Bool) (r : R) → cond b (Some r) None ≡ None → b ≡ false
+-- a test that refuses nothing fails
+pub not-refused : {R : Type 0} (b : Bool) (r : R) → cond b (Some r) None ≡ None → b ≡ false
 not-refused true r e = cc
 not-refused false r e = refl
 

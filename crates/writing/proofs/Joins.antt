@@ -21,16 +21,16 @@ spells-append bs p [] gs h k = k
 spells-append bs p (f ∷ fs) gs h k = (h.0, spells-append bs (p + width p f) fs gs h.1 k)
 
 -- a number is that of its bits
-number-bits : (xs ys : List ℕ) (p w : ℕ) → ((i : ℕ) → i < p + w → bit xs i ≡ bit ys i) → number xs p w ≡ number ys p w
+pub number-bits : (xs ys : List ℕ) (p w : ℕ) → ((i : ℕ) → p ≤ i → i < p + w → bit xs i ≡ bit ys i) → number xs p w ≡ number ys p w
 number-bits xs ys p zero same = number-none xs p ∙ sym (number-none ys p)
 number-bits xs ys p (suc w) same =
-    omega (arith, number_more xs p w, number_more ys p w, same (p + w) (omega arith), number-bits xs ys p w (λ i lt. same i (omega arith)))
+    omega (arith, number_more xs p w, number_more ys p w, same (p + w) (omega arith) (omega arith), number-bits xs ys p w (λ i lo hi. same i lo (omega arith)))
 
 pub spells-kept : (xs ys : List ℕ) (p : ℕ) (fs : List Field) → ((i : ℕ) → i < ends p fs → bit xs i ≡ bit ys i) → Spells ys p fs → Spells xs p fs
 unfolding ends Spells
 spells-kept xs ys p [] same h = h
 spells-kept xs ys p (f ∷ fs) same h = (
-  number-bits xs ys p (width p f) (λ i lt. same i (omega (arith, le-ends (p + width p f) fs))) ∙ h.0,
+  number-bits xs ys p (width p f) (λ i lo lt. same i (omega (arith, le-ends (p + width p f) fs))) ∙ h.0,
   spells-kept xs ys (p + width p f) fs same h.1,
 )
 

@@ -10,17 +10,14 @@ use Rattle.std.proofs.lemmas.Nat.{shr-shr, field_of}
 use Rattle.reading.specs.Formats.{bit, bits, number}
 use Rattle.reading.specs.Readings.{window}
 use Rattle.reading.specs.Spelling.{Spells, ends}
-use Rattle.reading.proofs.Numbers.{number-none, number_more, number-window}
+use Rattle.reading.proofs.Numbers.{number-window}
 use Rattle.writing.specs.Writes.{Writes, patched}
+use Rattle.writing.proofs.Joins.{number-bits}
 use Rattle.writing.proofs.Windows.{patched-above, patched-value, patched-below, patched_small}
 
 -- a number is that of the bytes that hold it
-pub number-cong : (xs ys : List ℕ) (p w : ℕ) → ((i : ℕ) → p / 8 ≤ i → 8 * i < p + w → get_or xs i 0 ≡ get_or ys i 0) → number xs p w ≡ number ys p w
-number-cong xs ys p zero same = number-none xs p ∙ sym (number-none ys p)
-number-cong xs ys p (suc w) same =
-    let e : get_or xs ((p + w) / 8) 0 ≡ get_or ys ((p + w) / 8) 0 = same ((p + w) / 8) (omega arith) (omega arith) in
-    let b : bit xs (p + w) ≡ bit ys (p + w) = ap (λ x. x / 2 ^ (7 - (p + w) % 8) % 2) e in
-    omega (arith, number_more xs p w, number_more ys p w, number-cong xs ys p w (λ i lo hi. same i lo (omega arith)))
+number-bytes-cong : (xs ys : List ℕ) (p w : ℕ) → ((i : ℕ) → p / 8 ≤ i → 8 * i < p + w → get_or xs i 0 ≡ get_or ys i 0) → number xs p w ≡ number ys p w
+number-bytes-cong xs ys p w same = number-bits xs ys p w (λ i lo hi. ap (λ x. x / 2 ^ (7 - i % 8) % 2) (same (i / 8) (omega arith) (omega arith)))
 
 -- byte k of three, of the number that they write
 abbrev pub third : ℕ → ℕ → ℕ
@@ -130,7 +127,7 @@ module _ (bs : List ℕ) (p w v r : ℕ) (small : (k : ℕ) → k < 3 → get_or
       let there : (i k : ℕ) → i ≡ p / 8 + k → k < 3 → get_or ys i 0 ≡ third n k = λ i k e lt.
       let z : i - p / 8 ≡ k = omega arith in
       get_or-append_right (replicate (p / 8) 0) three (p / 8) i 0 (length-replicate (p / 8) 0) (omega arith) ∙ rw z (get_or-thirds n k lt) in
-      let same : number (after_put bs p w v r) p w ≡ number ys p w = number-cong (after_put bs p w v r) ys p w (λ i lo hi.
+      let same : number (after_put bs p w v r) p w ≡ number ys p w = number-bytes-cong (after_put bs p w v r) ys p w (λ i lo hi.
       let k = i - p / 8 in
       let e : i ≡ p / 8 + k = omega arith in
       let lt : k < 3 = omega arith in

@@ -1,12 +1,13 @@
 -- The fields of a whole sheet.
-use Rattle.std.proofs.Common.{◌≡◌, ℕ, List, [], ◌∷◌, ◌++◌, map, length, sym, refl, ap, ◌∙◌, append-nil}
+use Rattle.std.proofs.Common.{◌≡◌, ℕ, List, [], ◌∷◌, ◌++◌, map, length, sym, refl, ap, ◌∙◌, append-nil, append_assoc}
 use Rattle.std.specs.List.{flat_map}
 use Rattle.std.proofs.lemmas.List.{map-append}
 use Rattle.std.proofs.lemmas.List.Concat.{flat_map_single}
 use Rattle.reading.specs.Formats.{bits, fill}
-use Rattle.reading.specs.Layout.{counts_of, header_format, process_format, signal_format, edge_format, term_format, name_format, sheet_format}
+use Rattle.reading.specs.Layout.{name_format, sheet_format}
 use Rattle.reading.specs.Spelling.{area_of}
 use Rattle.table.specs.Lists.{Lists}
+use Rattle.writing.proofs.Sizes.{table_fields}
 
 -- a name is its length and its characters, each a byte
 name-fields : (t : List ℕ) → name_format.writes t ≡ map (bits 8) (length t ∷ t)
@@ -19,7 +20,6 @@ names-fields (t ∷ ts) =
     ap (λ fs. fs ++ flat_map name_format.writes ts) (name-fields t) ∙ ap (λ fs. map (bits 8) (length t ∷ t) ++ fs) (names-fields ts) ∙
     sym (map-append (bits 8) (length t ∷ t) (area_of ts))
 
-pub sheet-fields : (T : Lists) (ts : List (List ℕ)) → sheet_format.writes (record { lists = T; names = ts })
-    ≡ header_format.writes (counts_of T) ++ (flat_map process_format.writes T.processes ++ (flat_map (signal_format (length T.processes)).writes T.signals ++ (flat_map edge_format.writes T.edges ++ (flat_map term_format.writes T.terms ++ (fill ∷ map (bits 8) (area_of ts))))))
+pub sheet-fields : (T : Lists) (ts : List (List ℕ)) → sheet_format.writes (record { lists = T; names = ts }) ≡ table_fields T ++ (fill ∷ map (bits 8) (area_of ts))
 unfolding sheet_format
-sheet-fields T ts = rw (append-nil (flat_map name_format.writes ts), names-fields ts) refl
+sheet-fields T ts = rw (append-nil (flat_map name_format.writes ts), names-fields ts) (simp append_assoc)

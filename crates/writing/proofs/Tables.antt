@@ -1,12 +1,12 @@
 -- The records of a table that passes its checks fit their fields.
-use Rattle.std.proofs.Common.{◌≡◌, ℕ, ◌+◌, ◌<◌, ◌≤◌, ◌⊎◌, inl, inr, Bool, true, false, cond, length, get_or, Some, None, Option, refl, arith}
+use Rattle.std.proofs.Common.{◌≡◌, ℕ, ◌+◌, ◌<◌, ◌≤◌, ◌⊎◌, inl, inr, false, length, get_or, Some, None, Option, refl, arith}
 use Rattle.std.specs.Option.{option_map}
 use Rattle.std.proofs.lemmas.Bool.{cases_lt}
 use Rattle.std.proofs.lemmas.Bool.Decides.{nat_tests}
 use Rattle.std.proofs.lemmas.List.{get_or_past}
 use Rattle.std.proofs.lemmas.Option.{slice_get-get_or}
 use Rattle.examination.proofs.Nearest.{first_passes, passes-parts}
-use Rattle.examination.proofs.Placed.{few-processes, sound-process}
+use Rattle.examination.proofs.Placed.{few-processes, not-refused, sound-process}
 use Rattle.reading.specs.Layout.{edge_format, header_format, counts_of}
 use Rattle.reading.specs.Rows.{no_edge}
 use Rattle.refusal.specs.Refusals.{refusal}
@@ -18,10 +18,6 @@ use Rattle.table.specs.Lists.{Lists, Proc}
 use Rattle.writing.specs.Writes.{AreNarrow}
 use Rattle.writing.proofs.Edges.{narrow-edge}
 use Rattle.writing.proofs.Processes.{good_process}
-
-cond-none : {A : Type 0} (b : Bool) (x : A) → cond b (Some x) None ≡ None → b ≡ false
-cond-none true x e = cc
-cond-none false x e = refl
 
 mapped-none : {A B : Type 0} (f : A → B) (o : Option A) → option_map f o ≡ None → o ≡ None
 mapped-none f None e = refl
@@ -38,7 +34,7 @@ module _ (T : Lists) (limits : limits_refused T ≡ None) where
   parts = passes-parts (lists_refused T) (processes_refused T) (signals_refused T) limits
 
   counts : too_many T ≡ false
-  counts = cond-none (too_many T) (refusal 3 Layer.Table (Place.At 0)) parts.0
+  counts = not-refused (too_many T) (refusal 3 Layer.Table (Place.At 0)) parts.0
 
   pub few-signals : length T.signals ≤ 64
   few-signals = let n = counts in grind (arith, nat_tests)
@@ -56,7 +52,7 @@ module _ (T : Lists) (limits : limits_refused T ≡ None) where
   narrow-signal s h =
       let x = get_or T.signals s absent in
       let n = few-processes T limits in
-      let b = cond-none (bad_signal (length T.processes) x) (refusal 3 Layer.Table (Place.At (0 + s))) (first_passes (limited (bad_signal (length T.processes))) T.signals 0 parts.1.1 s x (slice_get-get_or T.signals s absent h)) in
+      let b = not-refused (bad_signal (length T.processes) x) (refusal 3 Layer.Table (Place.At (0 + s))) (first_passes (limited (bad_signal (length T.processes))) T.signals 0 parts.1.1 s x (slice_get-get_or T.signals s absent h)) in
       (grind (arith, nat_tests), grind (arith, nat_tests))
 
   few : (p : ℕ) → Few (get_or T.processes p blank)

@@ -1,9 +1,10 @@
 -- What is written of a table that nothing is refused of.
-use Rattle.std.proofs.Common.{◌≡◌, ℕ, ◌+◌, ◌-◌, ◌*◌, ◌/◌, ◌%◌, ◌^◌, ◌<◌, ◌≤◌, Bool, true, false, cond, eqb, ltb, List, length, get_or, take, drop, Ok, Some, None, Option, sym, refl, ap, ◌∙◌, arith, length-drop, length-take-le}
+use Rattle.std.proofs.Common.{◌≡◌, ℕ, ◌+◌, ◌-◌, ◌*◌, ◌/◌, ◌%◌, ◌^◌, ◌<◌, ◌≤◌, eqb, ltb, List, length, get_or, take, drop, Ok, Some, None, Option, sym, refl, ap, ◌∙◌, arith, length-drop, length-take-le}
 use Rattle.std.specs.Option.{option_or}
 use Rattle.std.proofs.lemmas.Bool.Decides.{nat_tests}
 use Rattle.std.proofs.lemmas.List.{ext_get_or, get_or-drop, get_or-take}
 use Rattle.examination.proofs.Nearest.{passes-parts}
+use Rattle.examination.proofs.Placed.{not-refused}
 use Rattle.reading.specs.Formats.{bit}
 use Rattle.reading.specs.Layout.{Contents, sheet_format}
 use Rattle.reading.specs.Opening.{unless}
@@ -24,10 +25,6 @@ pub record Passed (T : Lists) (area : List ℕ) (room n : ℕ) : Type 0 where
   pub fits : needed T area ≤ room
   pub size : n ≡ needed T area
 
-cond-none : {A : Type 0} (b : Bool) (x : A) → cond b (Some x) None ≡ None → b ≡ false
-cond-none true x e = cc
-cond-none false x e = refl
-
 unless-ok : (o : Option Refusal) (x n : ℕ) → Ok n ≡ unless o x → (o ≡ None) × (n ≡ x)
 unless-ok None x n h = (refl, cc)
 unless-ok (Some r) x n h = cc
@@ -38,8 +35,8 @@ written-passed T area room n h =
     let o = unless-ok (write_refused T area room) (needed T area) n h in
     let a = passes-parts (no_process T) (limits_refused T) (option_or (edges_refused T) (option_or (names_refused T area) (too_short (needed T area) room))) o.0 in
     let b = passes-parts (edges_refused T) (names_refused T area) (too_short (needed T area) room) a.1.1 in
-    let some = cond-none (eqb (length T.processes) 0) _ a.0 in
-    let fits = cond-none (ltb room (needed T area)) _ b.1.1 in
+    let some = not-refused (eqb (length T.processes) 0) _ a.0 in
+    let fits = not-refused (ltb room (needed T area)) _ b.1.1 in
     record { some = grind (arith, nat_tests); limits = a.1.0; edges = b.0; names = b.1.0; fits = grind (arith, nat_tests); size = o.1 }
 
 module _ (T : Lists) (area old new : List ℕ) (n : ℕ) (passed : Passed T area (length old) n) (small : (i : ℕ) → get_or area i 0 < 256)

@@ -27,5 +27,4 @@ returns-clause-writes g c = λ texts e.
     let byte : 8 * (c.fill.new.self.place / 8) ≡ c.fill.new.self.place = omega arith in
     let end : c.fill.new.self.place + 8 * length c.args.names.now ≡ 8 * needed T c.args.names.now = omega arith in
     let names = rw (byte, end) at c.copy.ensures in
-    rw (sheet-fields T texts, ← e)
-    (writes_join header (writes_join c.processes.ensures.writes (writes_join (c.signals.ensures.writes (length T.processes)) (writes_join c.edges.ensures.writes (writes_join c.terms.ensures.writes (writes_join c.fill.ensures.writes names))))))
+    rw (sheet-fields T texts, ← e) (writes_join before (writes_join c.fill.ensures.writes names))

@@ -2,17 +2,10 @@ use Rattle.std.proofs.Common.{length, arith}
 use Rattle.writing.proofs.Wholes.{drop-written, is-written, written-passed}
 use Rattle.writing.proofs.write.write_sheet.Goals as goal
 
-pub put_sheet-requires-clause-limits : goal.put_sheet-requires-clause-limits
-put_sheet-requires-clause-limits g c =
-    (written-passed (g.T.Table.lists c.args.table.now) c.args.names.now (length c.args.output.now) c.in_ok-size.size c.in_ok-size.ensures).limits
-
-pub put_sheet-requires-clause-edges : goal.put_sheet-requires-clause-edges
-put_sheet-requires-clause-edges g c =
-    (written-passed (g.T.Table.lists c.args.table.now) c.args.names.now (length c.args.output.now) c.in_ok-size.size c.in_ok-size.ensures).edges
-
-pub put_sheet-requires-clause-room : goal.put_sheet-requires-clause-room
-put_sheet-requires-clause-room g c =
-    (written-passed (g.T.Table.lists c.args.table.now) c.args.names.now (length c.args.output.now) c.in_ok-size.size c.in_ok-size.ensures).fits
+pub put_sheet-requires : goal.put_sheet-requires
+put_sheet-requires g c =
+    let passed = written-passed (g.T.Table.lists c.args.table.now) c.args.names.now (length c.args.output.now) c.in_ok-size.size c.in_ok-size.ensures in
+    record { limits = passed.limits; edges = passed.edges; room = passed.fits }
 
 pub returns-clause-sheet : goal.returns-clause-sheet
 returns-clause-sheet g c =
