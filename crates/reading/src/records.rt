@@ -11,6 +11,8 @@ use crate::reader::Reader;
 use table::limits;
 use table::record::{Class, Edge, Process, Signal, Span, Term, Timer};
 
+pub const HEADER_BITS: usize = 44;
+
 pub const SIGNAL_BITS: usize = 6;
 
 pub const EDGE_BITS: usize = 60;

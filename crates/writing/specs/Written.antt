@@ -1,6 +1,8 @@
 -- What writing answers, for every table, name area and room for the sheet, and what it writes.
---   area_reads n area   how the layout reads an area of n names, up to its end
+--   area_reads n area p   how the layout reads n names from bit p of the area on, and its end
 --   misnamed a          what is refused of a name area that reads as a: 6, whatever it is refused with as a part of a sheet
+--   no_process T        the refusal of a table with no process, as a sheet is refused that counts none
+--   names_refused T area   the refusal of a name area that does not hold one name for each process and signal, and no more
 --   needed T area       how many bytes the sheet of the table T with the name area takes
 --   too_short n room    the refusal of n bytes where there is room for fewer
 --   write_refused T area room   the first that is refused: no process, the table, its edges, the names, the room

@@ -12,7 +12,7 @@ use crate::fault::WriteFault;
 use examination::check_records;
 use reading::fault::SheetFault;
 use reading::reader::Reader;
-use reading::records::{EDGE_BITS, SIGNAL_BITS, TERM_BITS};
+use reading::records::{EDGE_BITS, HEADER_BITS, SIGNAL_BITS, TERM_BITS};
 use table::questions::{Table, process_or_blank};
 
 /// The names of an area, and its end.
@@ -61,7 +61,7 @@ fn names_byte<T: Table>(table: &T) -> usize
     let signals = SIGNAL_BITS * table.signal_count();
     let edges = EDGE_BITS * table.edge_count();
     let terms = TERM_BITS * table.term_count();
-    (44 + processes_bits(table) + signals + edges + terms).div_ceil(8)
+    (HEADER_BITS + processes_bits(table) + signals + edges + terms).div_ceil(8)
 }
 
 /// How many bytes the sheet of the table takes, with these names and in so much room.

@@ -30,7 +30,7 @@ impl From<WriteFault> for Refusal {
 
     fn from(fault: WriteFault) -> Refusal {
         let (number, layer, place) = match fault {
-            WriteFault::Table(fault) => return Refusal::from(fault),
+            WriteFault::Table(table) => return Refusal::from(table),
             WriteFault::NoProcess => (3, Layer::Sheet, 8),
             WriteFault::Names(bit) => (6, Layer::Sheet, bit),
             WriteFault::Short(bytes) => (22, Layer::Output, bytes),

@@ -3,7 +3,7 @@
 
 mod checks;
 pub mod fault;
-pub mod parts;
-pub mod records;
+mod parts;
+mod records;
 pub mod write;
-pub mod writer;
+mod writer;
