@@ -9,7 +9,6 @@
 --   IsName t          1 to 15 characters, each from 33 to 126
 --   IsWritable c      the table has a process, breaks none of 3 and 7 to 10, and has a name for each process and signal
 --   IsSheet c bs      bs is the sheet of the contents c: nothing but the fields that the layout writes for c
---   area_of ts        the names ts one behind the other, each behind its length
 --   meaning c         what opening answers of a sheet of c
 --   Inverse bs        bs opens to o exactly if it is the sheet of some contents that mean o
 use Rattle.std.specs.Prelude.{◌≡◌, ℕ, ◌+◌, ◌-◌, ◌*◌, ◌%◌, ◌<◌, ◌≤◌, List, [], ◌∷◌, length, Ok, None, FitsSigned, slice_index}
@@ -74,9 +73,6 @@ pub record IsSheet (c : Contents) (bs : List ℕ) : Type 0 where
   pub writable : IsWritable c
   pub size : 8 * length bs ≡ ends 0 (sheet_format.writes c)
   pub fields : Spells bs 0 (sheet_format.writes c)
-
-abbrev pub area_of : List (List ℕ) → List ℕ
-area_of ts = flat_map (λ t. length t ∷ t) ts
 
 abbrev pub meaning : Contents → Opened
 meaning c = split c.lists (placed (names_byte c.lists) c.names)

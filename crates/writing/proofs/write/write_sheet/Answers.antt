@@ -1,4 +1,6 @@
-use Rattle.std.proofs.Common.{length, arith}
+use Rattle.std.proofs.Common.{length, take, arith, rules}
+use Rattle.reading.proofs.Inverse.{inverse}
+use Rattle.writing.proofs.Sole.{bytes-taken, sole}
 use Rattle.writing.proofs.Wholes.{drop-written, is-written, written-passed}
 use Rattle.writing.proofs.write.write_sheet.Goals as goal
 
@@ -22,3 +24,10 @@ returns-clause-beyond g c =
     let old = c.args.output.now in
     let passed = written-passed T area (length old) c.in_ok-size.size c.in_ok-size.ensures in
     drop-written T area old c.put_sheet.new.bytes c.in_ok-size.size passed (λ i. omega (arith, c.type_inv.names i)) c.put_sheet.ensures.writes
+
+pub returns-clause-inverse : goal.returns-clause-inverse
+returns-clause-inverse g c = inverse (take c.in_ok-size.size c.put_sheet.new.bytes)
+
+pub returns-clause-sole : goal.returns-clause-sole
+returns-clause-sole g c =
+    λ bs b h. sole (g.T.Table.lists c.args.table.now) c.args.names.now (take c.in_ok-size.size c.put_sheet.new.bytes) bs (bytes-taken c.in_ok-size.size c.put_sheet.new.bytes (λ i. omega (arith, c.type_inv.output i))) b (returns-clause-sheet g c) h
