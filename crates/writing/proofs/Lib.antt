@@ -7,6 +7,7 @@ pub mod Processes
 pub mod Rows
 pub mod Sheets
 pub mod Sizes
+pub mod Sole
 pub mod Tables
 pub mod Wholes
 pub mod Windows

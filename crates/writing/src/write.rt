@@ -2,7 +2,7 @@
 ghost use Rattle.std.specs.Prelude.{◌≡◌, ℕ, ◌*◌, ◌≤◌, List, length, take, drop, None, IfOk, OnErr};
 ghost use Rattle.std.specs.Result.{result_map_both};
 ghost use Rattle.reading.specs.Layout.{sheet_format, counts_of};
-ghost use Rattle.reading.specs.Spelling.{AreBytes, FitsRecords, area_of};
+ghost use Rattle.reading.specs.Spelling.{AreBytes, FitsRecords, Inverse, area_of};
 ghost use Rattle.table.specs.Examination.{edges_refused, limits_refused};
 ghost use Rattle.writing.specs.Faults.{write_refusal};
 ghost use Rattle.writing.specs.Writes.{Writes};
@@ -57,6 +57,8 @@ pub fn write_sheet<T: Table>(
     ensures answer { result_map_both (λ n. n) write_refusal result ≡ written (T.lists table.now) names.now (length output.old) }
     ensures sheet { IfOk result (λ n. IsWrittenAs (T.lists table.now) names.now (take n output.new)) }
     ensures bytes { IfOk result (λ n. AreBytes (take n output.new)) }
+    ensures inverse { IfOk result (λ n. Inverse (take n output.new)) }
+    ensures sole { IfOk result (λ n. (bs : List ℕ) → AreBytes bs → IsWrittenAs (T.lists table.now) names.now bs → bs ≡ take n output.new) }
     ensures beyond { IfOk result (λ n. drop n output.new ≡ drop n output.old) }
     ensures size { length output.new ≡ length output.old }
     ensures refused { OnErr result (output.new ≡ output.old) }
