@@ -61,4 +61,13 @@ impl<'a> Sheet<'a> {
     {
         self.name_among(self.counts.processes, self.counts.signals, s)
     }
+
+    /// The part of the sheet behind the fill: for each process and then each signal a length byte and its characters.
+    pub fn name_area(&self) -> &'a [u8]
+        ensures { result.now ≡ drop self.now.names_at (bytes_of self.now) }
+    {
+        let bytes = self.bytes;
+        let start = (self.names_at as usize).min(bytes.len());
+        &bytes[start..]
+    }
 }
