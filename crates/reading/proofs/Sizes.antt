@@ -13,7 +13,7 @@ use Rattle.reading.specs.Spelling.{AreBytes, FitsProcess, FitsRecords, IsSheet, 
 use Rattle.reading.specs.declared.records.Counts.{Counts}
 use Rattle.reading.proofs.Numbers.{number-byte}
 use Rattle.reading.proofs.Spelled.{ends-above, ends-append, spells-parts}
-use Rattle.table.specs.Lists.{Proc}
+use Rattle.table.specs.Lists.{Lists, Proc}
 use Rattle.table.specs.declared.record.Edge.{Edge}
 use Rattle.table.specs.declared.record.Signal.{Signal}
 use Rattle.table.specs.declared.record.Term.{Term}
@@ -74,19 +74,18 @@ ends-processes q (p ∷ ps) h =
 
 -- up to the names
 
-pub before_fill : Contents → List Field
-before_fill c =
-    header_format.writes (counts_of c.lists) ++ (flat_map process_format.writes c.lists.processes ++ (flat_map (signal_format (length c.lists.processes)).writes c.lists.signals
-    ++ (flat_map edge_format.writes c.lists.edges ++ flat_map term_format.writes c.lists.terms)))
+unfoldable pub before_fill : Lists → List Field
+before_fill T =
+    header_format.writes (counts_of T) ++ (flat_map process_format.writes T.processes ++ (flat_map (signal_format (length T.processes)).writes T.signals
+    ++ (flat_map edge_format.writes T.edges ++ flat_map term_format.writes T.terms)))
 
-pub sheet-writes : (c : Contents) → sheet_format.writes c ≡ before_fill c ++ fill ∷ flat_map name_format.writes c.names
+pub sheet-writes : (c : Contents) → sheet_format.writes c ≡ before_fill c.lists ++ fill ∷ flat_map name_format.writes c.names
 unfolding sheet_format before_fill
 sheet-writes c = simp (append_assoc, append-nil)
 
-pub ends-before_fill : (c : Contents) → FitsRecords c.lists → ends 0 (before_fill c) ≡ edges_bit c.lists + 60 * length c.lists.edges + 20 * length c.lists.terms
+pub ends-before_fill : (T : Lists) → All FitsProcess T.processes → ends 0 (before_fill T) ≡ edges_bit T + 60 * length T.edges + 20 * length T.terms
 unfolding before_fill
-ends-before_fill c h =
-    let T = c.lists in
+ends-before_fill T h =
     let n = length T.processes in
     let ps = flat_map process_format.writes T.processes in
     let ss = flat_map (signal_format n).writes T.signals in
@@ -96,14 +95,14 @@ ends-before_fill c h =
     let p2 = p1 + 6 * length T.signals in
     let p3 = p2 + 60 * length T.edges in
     ends-append 0 (header_format.writes (counts_of T)) (ps ++ (ss ++ (es ++ ts))) ∙ ap (λ n. ends n (ps ++ (ss ++ (es ++ ts)))) (ends-header (counts_of T))
-    ∙ ends-append 44 ps (ss ++ (es ++ ts)) ∙ ap (λ n. ends n (ss ++ (es ++ ts))) (ends-processes 44 T.processes h.processes)
+    ∙ ends-append 44 ps (ss ++ (es ++ ts)) ∙ ap (λ n. ends n (ss ++ (es ++ ts))) (ends-processes 44 T.processes h)
     ∙ ends-append p1 ss (es ++ ts) ∙ ap (λ n. ends n (es ++ ts)) (ends-row (signal_format n) 6 (ends-signal n) p1 T.signals)
     ∙ ends-append p2 es ts ∙ ap (λ n. ends n ts) (ends-row edge_format 60 ends-edge p2 T.edges)
     ∙ ends-row term_format 20 ends-term p3 T.terms
 
 -- the names
 
-names-writes : (ts : List (List ℕ)) → flat_map name_format.writes ts ≡ map (bits 8) (area_of ts)
+pub names-writes : (ts : List (List ℕ)) → flat_map name_format.writes ts ≡ map (bits 8) (area_of ts)
 unfolding name_format
 names-writes [] = refl
 names-writes (t ∷ ts) =
@@ -126,10 +125,10 @@ bytes-left bs b a (v ∷ vs) e h =
 pub sheet-names : (c : Contents) (bs : List ℕ) → AreBytes bs → IsSheet c bs → drop (names_byte c.lists) bs ≡ area_of c.names
 unfolding Spells ends
 sheet-names c bs b s =
-    let front = before_fill c in
+    let front = before_fill c.lists in
     let back = flat_map name_format.writes c.names in
     let p = ends 0 front in
-    let at : p + (8 - p % 8) % 8 ≡ 8 * names_byte c.lists = let z = ends-before_fill c s.writable.records in omega arith in
+    let at : p + (8 - p % 8) % 8 ≡ 8 * names_byte c.lists = let z = ends-before_fill c.lists s.writable.records.processes in omega arith in
     let parts = spells-parts bs 0 front (fill ∷ back) (subst (Spells bs 0) (sheet-writes c) s.fields) in
     let fields = subst (λ (n : ℕ). Spells bs n back) at parts.1.1 in
     let size : 8 * length bs ≡ ends (8 * names_byte c.lists) back = s.size ∙ ap (ends 0) (sheet-writes c) ∙ ends-append 0 front (fill ∷ back) ∙ ap (λ n. ends n back) at in

@@ -6,7 +6,6 @@ pub mod Places
 pub mod Processes
 pub mod Rows
 pub mod Sheets
-pub mod Sizes
 pub mod Sole
 pub mod Tables
 pub mod Wholes

@@ -11,13 +11,13 @@ use Rattle.reading.specs.Formats.{bit, bits, number}
 use Rattle.reading.specs.Readings.{window}
 use Rattle.reading.specs.Spelling.{Spells, ends}
 use Rattle.reading.proofs.Numbers.{number-window}
+use Rattle.reading.proofs.Spelled.{number_same}
 use Rattle.writing.specs.Writes.{Writes, patched}
-use Rattle.writing.proofs.Joins.{number-bits}
 use Rattle.writing.proofs.Windows.{patched-above, patched-value, patched-below, patched_small}
 
 -- a number is that of the bytes that hold it
 number-bytes-cong : (xs ys : List ℕ) (p w : ℕ) → ((i : ℕ) → p / 8 ≤ i → 8 * i < p + w → get_or xs i 0 ≡ get_or ys i 0) → number xs p w ≡ number ys p w
-number-bytes-cong xs ys p w same = number-bits xs ys p w (λ i lo hi. ap (λ x. x / 2 ^ (7 - i % 8) % 2) (same (i / 8) (omega arith) (omega arith)))
+number-bytes-cong xs ys p w same = number_same xs ys p w (λ i lo hi. ap (λ x. x / 2 ^ (7 - i % 8) % 2) (same (i / 8) (omega arith) (omega arith)))
 
 -- byte k of three, of the number that they write
 abbrev pub third : ℕ → ℕ → ℕ

@@ -10,7 +10,7 @@ use Rattle.table.specs.Lists.{Lists}
 use Rattle.writing.specs.Written.{IsWrittenAs}
 
 -- the length before each name tells where it ends
-area-same : (ts us : List (List ℕ)) → area_of ts ≡ area_of us → ts ≡ us
+pub area-same : (ts us : List (List ℕ)) → area_of ts ≡ area_of us → ts ≡ us
 area-same [] [] h = refl
 area-same [] (u ∷ us) h = let z : 0 ≡ suc (length (u ++ area_of us)) = ap length h in absurd (omega arith)
 area-same (t ∷ ts) [] h = let z : suc (length (t ++ area_of ts)) ≡ 0 = ap length h in absurd (omega arith)

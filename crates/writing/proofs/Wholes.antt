@@ -15,7 +15,7 @@ use Rattle.table.specs.Lists.{Lists}
 use Rattle.writing.specs.Writes.{Writes}
 use Rattle.writing.specs.Written.{IsWrittenAs, names_refused, needed, no_process, too_short, write_refused, written}
 use Rattle.writing.proofs.Areas.{Named, area-read}
-use Rattle.writing.proofs.Joins.{spells-kept}
+use Rattle.reading.proofs.Spelled.{spells_taken}
 
 pub record Passed (T : Lists) (area : List ℕ) (room n : ℕ) : Type 0 where
   pub some : 1 ≤ length T.processes
@@ -48,14 +48,13 @@ module _ (T : Lists) (area old new : List ℕ) (n : ℕ) (passed : Passed T area
   is-written records =
       let c : Contents = record { lists = T; names = named.names } in
       let w = writes named.names named.whole in
-      let l : length (take n new) ≡ n = length-take-le n new (omega (arith, w.size, passed.fits, passed.size)) in
-      let same : (i : ℕ) → i < ends 0 (sheet_format.writes c) → bit (take n new) i ≡ bit new i = λ i lt. ap (λ x. x / 2 ^ (7 - i % 8) % 2) (get_or-take n new (i / 8) 0 (omega (arith, w.place, passed.size))) in (
+      let l : length (take n new) ≡ n = length-take-le n new (omega (arith, w.size, passed.fits, passed.size)) in (
         named.names,
         named.whole,
         record {
           writable = record { some = passed.some; limits = passed.limits; edges = passed.edges; records = records; named = named.count; names = named.each };
           size = omega (arith, l, w.place, passed.size);
-          fields = spells-kept (take n new) new 0 (sheet_format.writes c) same (w.fields (omega (arith, passed.fits)));
+          fields = spells_taken new n 0 (sheet_format.writes c) (omega (arith, w.place, passed.size)) (w.fields (omega (arith, passed.fits)));
         },
       )
 
