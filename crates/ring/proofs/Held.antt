@@ -1,11 +1,12 @@
 -- What a ring holds: how much, and what one item more or one less makes of it.
-use Rattle.std.proofs.Common.{◌≡◌, ℕ, suc, ◌+◌, ◌-◌, ◌<◌, ◌≤◌, true, false, cond, ◌&&◌, ltb, List, [], ◌∷◌, ◌++◌, length, get_or, take, drop, set, Some, refl, ◌∙◌, arith}
+use Rattle.std.proofs.Common.{◌≡◌, ℕ, suc, ◌+◌, ◌-◌, ◌<◌, ◌≤◌, true, false, cond, ◌&&◌, ltb, List, [], ◌∷◌, ◌++◌, length, get_or, take, drop, set, Some, None, refl, ◌∙◌, arith}
 use Rattle.std.specs.List.{slice_get}
 use Rattle.std.proofs.lemmas.List.{same_lists, nil_from_length, length_push, length-take, length-drop, length-append, length-set, get_or_append_left, get_or-append_right, get_or_push, get_or-set_same, get_or-set_other, get_or-take, get_or-drop, get_or_default}
+use Rattle.std.proofs.lemmas.Option.{slice_get_read, slice_get_past}
 use Rattle.std.proofs.lemmas.Bool.{cases_eq, cond-true}
 use Rattle.std.proofs.lemmas.Bool.Decides.{nat_tests}
 use Rattle.ring.specs.declared.Ring.{Ring}
-use Rattle.ring.specs.Queue.{fits, held, fresh, longer, shorter, place}
+use Rattle.ring.specs.Queue.{fits, held, fresh, longer, shorter, spot, place}
 
 -- l of the places from h on, round the end
 abbrev part : {X : Type 0} → ℕ → ℕ → List X → List X
@@ -32,7 +33,7 @@ cons-from (y ∷ xs) ys l x e f first each =
     let t : xs ≡ ys = same_lists xs ys (omega arith) (λ k d h. each k d (omega arith)) in
     cc
 
-part-append : {X : Type 0} (ps : List X) (h l p : ℕ) (x : X) → h < length ps → l < length ps → p ≡ cond (ltb h (length ps - l)) (h + l) (h - (length ps - l)) → part h (l + 1) (set ps p x) ≡ part h l ps ++ x ∷ []
+part-append : {X : Type 0} (ps : List X) (h l p : ℕ) (x : X) → h < length ps → l < length ps → p ≡ cond (ltb l (length ps - h)) (h + l) (l - (length ps - h)) → part h (l + 1) (set ps p x) ≡ part h l ps ++ x ∷ []
 part-append ps h l p x a b e =
     let n = length-set ps p x in
     push-from (part h (l + 1) (set ps p x)) (part h l ps) l x
@@ -82,6 +83,16 @@ held-shorter r ps d f l =
     let step = part-remove ps r.head (r.len - 1) _ d h m refl in
     cc
 
--- the same, by the ring s that is left and the item x that stands first
+-- the i-th item, and that there is none
+pub held_at : {X : Type 0} (r : Ring) (ps : List X) (i : ℕ) (x : X) → fits r (length ps) ≡ true → i < r.len → x ≡ get_or ps (spot r i (length ps)) x → slice_get (held r ps) i ≡ Some x
+held_at r ps i x f l e =
+    let was = held_fits r ps f in
+    let n = length-held r ps in
+    slice_get_read (held r ps) r.len i x (grind (arith, nat_tests)) l (grind (arith, nat_tests, get_or-part ps r.head r.len i x))
+
+pub held_past : {X : Type 0} (r : Ring) (ps : List X) (i : ℕ) → false ≡ (fits r (length ps) && ltb i r.len) → slice_get (held r ps) i ≡ None
+held_past r ps i e = slice_get_past (held r ps) i (grind (arith, nat_tests, length-held r ps))
+
+-- what a remove leaves, by the ring s that is left and the item x that stands first
 pub held-taken : {X : Type 0} (r s : Ring) (ps : List X) (x : X) → fits r (length ps) ≡ true → 0 < r.len → s ≡ shorter r (length ps) → Some x ≡ slice_get (held r ps) 0 → held r ps ≡ x ∷ held s ps
 held-taken r s ps x f l e v = let h = held-shorter r ps x f l in cc

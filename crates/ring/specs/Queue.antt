@@ -4,6 +4,7 @@
 --   fresh           the ring that holds nothing, with its head at place 0
 --   longer r        the ring r after an append
 --   shorter r n     the ring r after a remove
+--   spot r i n      the place of the i-th item
 --   place r n       the place that the next item goes to
 use Rattle.std.specs.Prelude.{ℕ, ◌+◌, ◌-◌, Bool, cond, ◌&&◌, List, [], ◌++◌, length, take, drop, nat_le, nat_lt}
 use Rattle.ring.specs.declared.Ring.{Ring}
@@ -23,5 +24,8 @@ longer r = record { head = r.head; len = r.len + 1 }
 abbrev pub shorter : Ring → ℕ → Ring
 shorter r n = record { head = cond (nat_lt (r.head + 1) n) (r.head + 1) 0; len = r.len - 1 }
 
+abbrev pub spot : Ring → ℕ → ℕ → ℕ
+spot r i n = cond (nat_lt i (n - r.head)) (r.head + i) (i - (n - r.head))
+
 abbrev pub place : Ring → ℕ → ℕ
-place r n = cond (nat_lt r.head (n - r.len)) (r.head + r.len) (r.head - (n - r.len))
+place r n = spot r r.len n

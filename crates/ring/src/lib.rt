@@ -1,9 +1,9 @@
 //! The first-in-first-out queue, over places that the caller lends to each call.
 #![tactic(auto)]
 
-ghost use Rattle.std.specs.Prelude.{◌≡◌, ◌+◌, ◌-◌, ◌&&◌, [], ◌∷◌, ◌++◌, length, drop, is_ok, is_some, if◌then◌else◌, MatchOption, ◌==◌, nat_lt, slice_set};
+ghost use Rattle.std.specs.Prelude.{◌≡◌, ◌+◌, ◌-◌, ◌<◌, ◌&&◌, [], ◌∷◌, ◌++◌, length, drop, is_ok, is_some, if◌then◌else◌, MatchOption, ◌==◌, nat_lt, slice_set};
 ghost use Rattle.std.specs.List.{slice_get};
-ghost use Rattle.ring.specs.Queue.{fits, fresh, held, longer, shorter, place};
+ghost use Rattle.ring.specs.Queue.{fits, fresh, held, longer, shorter, spot, place};
 
 /// The ends of a queue: where its first item is, and how many there are. Its capacity is the number of places lent.
 ///
@@ -45,8 +45,16 @@ impl Ring {
         ensures value { result ≡ slice_get (held self.now places.now) 0 }
         ensures test { is_some result ≡ (fits self.now (length places.now) && nat_lt 0 self.now.len) }
     {
-        if self.fits(places.len()) && self.len > 0 {
-            Some(places[self.head])
+        self.get(places, 0)
+    }
+
+    /// The i-th of the items held, the first being number 0.
+    pub fn get<T: Copy>(&self, places: &[T], i: usize) -> Option<T>
+        ensures value { result ≡ slice_get (held self.now places.now) i }
+        ensures test { is_some result ≡ (fits self.now (length places.now) && nat_lt i self.now.len) }
+    {
+        if self.fits(places.len()) && i < self.len {
+            Some(places[self.place(i, places.len())])
         } else {
             None
         }
@@ -65,13 +73,7 @@ impl Ring {
         if !self.fits(count) || self.len == count {
             return Err(Full);
         }
-        let free = count - self.len;
-        let place = if self.head < free {
-            self.head + self.len
-        } else {
-            self.head - free
-        };
-        places[place] = item;
+        places[self.place(self.len, count)] = item;
         self.len += 1;
         Ok(())
     }
@@ -91,6 +93,20 @@ impl Ring {
         self.head = if next < places.len() { next } else { 0 };
         self.len -= 1;
         Some(first)
+    }
+
+    /// The place of the i-th item, of `count` places that go round.
+    fn place(&self, i: usize, count: usize) -> usize
+        requires head { self.now.head < count }
+        requires within { i < count }
+        ensures value { result ≡ spot self.now i count }
+    {
+        let until_end = count - self.head;
+        if i < until_end {
+            self.head + i
+        } else {
+            i - until_end
+        }
     }
 
     /// Whether `count` places are enough for what is held, and the head is one of them.
