@@ -111,6 +111,18 @@ impl Process {
     };
 }
 
+impl Default for Process {
+    fn default() -> Process {
+        Process::BLANK
+    }
+}
+
+impl Default for Signal {
+    fn default() -> Signal {
+        Signal::ABSENT
+    }
+}
+
 impl From<u8> for Operation {
     ghost from_gives = { λ n o. o ≡ operation_of n };
 
