@@ -1,3 +1,2 @@
 pub mod Evaluations
-pub mod Examples
 pub mod Stacks

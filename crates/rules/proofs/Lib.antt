@@ -12,3 +12,4 @@ pub mod Promised
 pub mod Runs
 mod Ticks
 mod Twins
+mod Worked

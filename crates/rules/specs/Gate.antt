@@ -1,22 +1,37 @@
--- The worked example, closed and run.
---   gate_marks       its marks: x0 everywhere, and tx's t0
+-- The worked example: its marks, its closed table, and a run of each.
+--   Instance         a variable or timer at a location of its process: process, location and number
+--   among is p l n   the instance n at location l of process p is one of is
+--   gate_variables, gate_timers   x0 of rx at 0, 1 and 2 and of tx at 0 and 1; t0 of tx at 0 and 1
+--   gate_marks       its marks: these and no other
 --   gate_closed      the closed table
 --   open_trace, closed_trace   a run of the open table, and the closed run that matches it
---   failing W        the calls of a trace that are refused
-use Rattle.std.specs.Prelude.{◌≡◌, List, [], ◌∷◌, ◌++◌, length, replicate, pos, Some, None, slice_index_or}
+--   closed_points    how far the closed run has come at each call of the open one
+use Rattle.std.specs.Prelude.{ℕ, Bool, ◌&&◌, List, [], ◌∷◌, ◌==◌, pos}
+use Rattle.std.specs.List.{list_any}
 use Rattle.marks.specs.Rules.{Marking}
-use Rattle.marks.specs.Words.{marks_in}
-use Rattle.rules.specs.Closing.{closed, test_refused, closed_count, loop}
-use Rattle.rules.specs.Matching.{taken, run_of, points_of}
-use Rattle.rules.specs.States.{started, start_refused}
-use Rattle.rules.specs.Steps.{step_refused, state_at}
+use Rattle.rules.specs.Closing.{closed}
 use Rattle.rules.specs.declared.step.Step.{Step}
 use Rattle.rules.specs.declared.step.Step.TheVariants.{Offer, Move, Tick}
-use Rattle.table.specs.Gate.{gate_table, edge, span}
+use Rattle.table.specs.Gate.{gate_table}
 use Rattle.table.specs.Lists.{Lists}
 
+abbrev pub Instance : Type 0
+Instance = ℕ × ℕ × ℕ
+
+abbrev pub is_at : ℕ → ℕ → ℕ → Instance → Bool
+is_at p l n i = i.0 == p && (i.1 == l && i.2 == n)
+
+abbrev pub among : List Instance → ℕ → ℕ → ℕ → Bool
+among is p l n = list_any (is_at p l n) is
+
+abbrev pub gate_variables : List Instance
+gate_variables = (0, 0, 0) ∷ (0, 1, 0) ∷ (0, 2, 0) ∷ (1, 0, 0) ∷ (1, 1, 0) ∷ []
+
+abbrev pub gate_timers : List Instance
+gate_timers = (1, 0, 0) ∷ (1, 1, 0) ∷ []
+
 unfoldable pub gate_marks : Marking
-gate_marks = marks_in (1 ∷ 1 ∷ 1 ∷ (replicate 13 0 ++ 257 ∷ 257 ∷ []))
+gate_marks = record { variable = among gate_variables; timer = among gate_timers }
 
 abbrev pub gate_closed : Lists
 gate_closed = closed gate_table gate_marks
@@ -27,17 +42,5 @@ open_trace = Offer 0 (pos 5) ∷ Move 0 ∷ Move 1 ∷ Move 2 ∷ Move 4 ∷ Mov
 abbrev pub closed_trace : List Step
 closed_trace = Move 0 ∷ Move 1 ∷ Move 2 ∷ Move 4 ∷ Move 5 ∷ Move 7 ∷ Move 9 ∷ Tick ∷ []
 
-pub record Worked : Type 0 where
-  pub passes : test_refused gate_table gate_marks ≡ None
-  pub count : closed_count gate_table gate_marks ≡ 10
-  pub edges : length gate_closed.edges ≡ 10
-  pub fifth : slice_index_or gate_closed.edges 5 (loop 0 0 0 0 0) ≡ edge 1 1 0 3 0 0 0 (span 0 0) (span 0 0)
-  pub seventh : slice_index_or gate_closed.edges 7 (loop 0 0 0 0 0) ≡ edge 0 0 0 6 1 1 0 (span 0 0) (span 0 0)
-  pub eighth : slice_index_or gate_closed.edges 8 (loop 0 0 0 0 0) ≡ edge 1 0 0 5 0 0 0 (span 0 0) (span 0 0)
-  pub ninth : slice_index_or gate_closed.edges 9 (loop 0 0 0 0 0) ≡ edge 1 0 0 6 0 1 0 (span 0 0) (span 0 0)
-  pub opens : start_refused gate_table 128 ≡ None
-  pub runs : taken gate_table (started gate_table 128) open_trace ≡ 7
-  pub run : run_of gate_table gate_marks 128 open_trace ≡ closed_trace
-  pub points : points_of gate_table gate_marks 128 open_trace ≡ 0 ∷ 1 ∷ 2 ∷ 3 ∷ 4 ∷ 5 ∷ 8 ∷ []
-  pub closed_runs : taken gate_closed (started gate_closed 128) closed_trace ≡ 8
-  pub held : step_refused gate_closed (started gate_closed 128) Tick ≡ Some (state_at 20 0)
+abbrev pub closed_points : List ℕ
+closed_points = 0 ∷ 1 ∷ 2 ∷ 3 ∷ 4 ∷ 5 ∷ 8 ∷ []

@@ -1,4 +1,4 @@
-use Rattle.rules.proofs.Gate.{worked}
+use Rattle.rules.proofs.Worked.{worked}
 use Rattle.rules.proofs.laws.example_is_worked.Goals as goal
 
 pub returns : goal.returns
