@@ -13,7 +13,7 @@ use crate::location::check_locations;
 use refusal::fault::TableFault;
 use table::questions::Table;
 
-mod bounds;
+pub mod bounds;
 pub mod edge;
 pub mod first;
 mod flags;

@@ -1,0 +1,9 @@
+pub mod Leaving
+pub mod Making
+pub mod Worlds
+pub mod Limits
+pub mod Tests
+pub mod Cooling
+pub mod Moves
+pub mod Starting
+pub mod Asking
