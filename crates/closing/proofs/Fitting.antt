@@ -6,7 +6,8 @@ use Rattle.std.proofs.lemmas.Bool.Decides.{nat_tests}
 use Rattle.std.specs.List.{range_with_len, flat_map, find}
 use Rattle.std.specs.Option.{option_or, option_map}
 use Rattle.std.specs.Bool.{then_some}
-use Rattle.closing.specs.Faults.{testing}
+use Rattle.std.specs.Result.{result_map_both}
+use Rattle.closing.specs.Faults.{measuring, test_refusal, testing}
 use Rattle.closing.specs.Layers.{timers_in, freed_as_in, freed_in, edge_in, process_in, loops_in, closed_in, by_plan, layered}
 use Rattle.closing.specs.Plans.{Planned, ninth_in, count_in, count_refused_in, room_refused, test_refused_in}
 use Rattle.closing.specs.declared.fault.TestFault.{TestFault}
@@ -15,6 +16,7 @@ use Rattle.loops.specs.Rows.{timer_edges, chaos_edges, spot_timers, at_spot, sha
 use Rattle.marks.specs.Instances.{process_at}
 use Rattle.marks.specs.Rules.{Marking, Least, marked}
 use Rattle.marks.specs.Words.{bit}
+use Rattle.marks.specs.declared.marks.Marks.{Marks}
 use Rattle.refusal.specs.Refusals.{outcome, table_refusal}
 use Rattle.refusal.specs.declared.fault.Refusal.{Refusal}
 use Rattle.refusal.specs.declared.fault.TableFault.{TableFault}
@@ -23,7 +25,7 @@ use Rattle.rules.proofs.Fates.{there-is}
 use Rattle.rules.proofs.Lists.{In, in-counting, first_from-all}
 use Rattle.rules.proofs.Promised.{tests, closes}
 use Rattle.rules.specs.Closing.{chaotic, with_chaos, closed_process, closed_signal, fate, freed, freed_as, changed, closed_edge, timer_loops, chaos_loops, added_at, added_to, added, closed, closed_by, closed_count, ninth, test_at, timers_refused, count_refused, test_refused}
-use Rattle.rules.specs.Promise.{Marked, Tests, Closes}
+use Rattle.rules.specs.Promise.{Marked, Measured, Tests, Closes}
 use Rattle.rules.specs.States.{numbered}
 use Rattle.rules.specs.Steps.{answer}
 use Rattle.survey.specs.Surveys.{spot_at, chaotic_at}
@@ -238,19 +240,38 @@ none = record { variable = λ p l v. false; timer = λ p l n. false }
 refused-least : (T : Lists) (x : Refusal) → examined T ≡ Some x → Marked T none
 refused-least T x e h = none-some x (sym h ∙ e)
 
-pub tests-refused : (T : Lists) (x : Refusal) (o : Result ℕ Refusal) → examined T ≡ Some x → o ≡ Err x → Tests T o
+pub measured-refused : (T : Lists) (x : Refusal) (o : Result (Marking × ℕ) Refusal) → examined T ≡ Some x → o ≡ Err x → Measured T o
 unfolding test_refused
-tests-refused T x o e h =
-    tests T none (refused-least T x e) o (h ∙ sym (ap (λ r. answer (option_or r (option_or (timers_refused T) (count_refused T none))) (closed_count T none)) e))
+measured-refused T x o e h = record {
+  marks = none;
+  least = refused-least T x e;
+  says = h ∙ sym (ap (λ r. answer (option_or r (option_or (timers_refused T) (count_refused T none))) (none, closed_count T none)) e);
+}
 
 pub closes-refused : (T C : Lists) (x : Refusal) → examined T ≡ Some x → C ≡ T → Closes T C
 unfolding test_refused
 closes-refused T C x e h =
     closes T none (refused-least T x e) C (h ∙ sym (ap (λ r. cond (is_some (option_or r (option_or (timers_refused T) (count_refused T none)))) T (closed T none)) e))
 
-pub tests-planned : (T : Lists) (M : Marking) (q : Plan) (o : Result ℕ Refusal) → examined T ≡ None → Least T M → Planned T M q → o ≡ answer (room_refused q T) (count_in q T) → Tests T o
-tests-planned T M q o e least plan h =
-    tests T M (λ _. least) o (h ∙ ap (λ r. answer r (count_in q T)) (sym (test-same T M q e plan)) ∙ ap (answer (test_refused T M)) (count_same T M q e plan))
+pub measured-planned : (T : Lists) (M : Marking) (q : Plan) (o : Result (Marking × ℕ) Refusal) → examined T ≡ None → Least T M → Planned T M q → o ≡ answer (room_refused q T) (M, count_in q T) → Measured T o
+measured-planned T M q o e least plan h = record {
+  marks = M;
+  least = λ _. least;
+  says = h ∙ ap (λ r. answer r (M, count_in q T)) (sym (test-same T M q e plan)) ∙ ap (λ n. answer (test_refused T M) (M, n)) (count_same T M q e plan);
+}
+
+-- the test is the second half of measuring
+pub tests_measured : (T : Lists) (r : Result (Marks × ℕ) TestFault) (o : Result ℕ TestFault) → Measured T (measuring r) → testing o ≡ result_map_both (λ x. x.1) test_refusal r → Tests T (testing o)
+tests_measured T r o m h =
+    tests T m.marks m.least (testing o) (h ∙ counted r ∙ ap (result_map_both (λ x. x.1) (λ f. f)) m.says ∙ answered (test_refused T m.marks))
+  where
+    counted : (r : Result (Marks × ℕ) TestFault) → result_map_both (λ x. x.1) test_refusal r ≡ result_map_both (λ x. x.1) (λ f. f) (measuring r)
+    counted (Ok x) = refl
+    counted (Err f) = refl
+
+    answered : (f : Option Refusal) → result_map_both (λ (x : Marking × ℕ). x.1) (λ (r : Refusal). r) (answer f (m.marks, closed_count T m.marks)) ≡ answer f (closed_count T m.marks)
+    answered None = refl
+    answered (Some x) = refl
 
 -- whether the test passes, by its answer
 pub passed-room : (q : Plan) (T : Lists) (r : Result ℕ TestFault) (b : Bool) → examined T ≡ None → testing r ≡ answer (room_refused q T) (count_in q T) → b ≡ is_ok r → b ≡ not (is_some (test_refused_in q T))
@@ -280,4 +301,4 @@ first_found f i zero = refl
 first_found f i (suc n) = ap (λ o. cond (f i) (Some i) o) (first_found f (i + 1) n)
 
 -- what the test and closing need
-pub ruleset deciding = (few-edges, examined_ok, meant_by, closes, tests-planned)
+pub ruleset deciding = (few-edges, examined_ok, meant_by, closes, measured-planned)

@@ -1,4 +1,4 @@
-//! The closing layer: the table below, closed by a plan. It answers each question from the plan and one question below.
+//! The closing layer: the table below, closed by a plan. It answers each question from the plan and from the records that the question is about.
 ghost use Rattle.std.specs.Prelude.{◌≡◌, ◌≤◌, length};
 ghost use Rattle.std.specs.List.{slice_get};
 ghost use Rattle.std.specs.Option.{option_copied};

@@ -1,10 +1,10 @@
 //! Closing: the test, the closing layer, which is itself a table, and the promise that it stands in for the table below.
 #![tactic(auto)]
 
-mod close;
+pub mod close;
 mod edges;
 pub mod fault;
 pub mod layer;
 pub mod plan;
 mod planning;
-mod test;
+pub mod test;

@@ -1,8 +1,8 @@
 //! The test: whether a table can be closed, and how many edges it then has.
 ghost use Rattle.std.specs.Prelude.{◌≡◌, ◌≤◌, not, length, is_some};
-ghost use Rattle.closing.specs.Faults.{testing};
+ghost use Rattle.closing.specs.Faults.{measuring, testing};
 ghost use Rattle.closing.specs.Plans.{ninth_in, count_in, room_refused, test_refused_in};
-ghost use Rattle.rules.specs.Promise.{Tests};
+ghost use Rattle.rules.specs.Promise.{Measured, Tests};
 ghost use Rattle.rules.specs.Steps.{answer};
 ghost use Rattle.table.specs.Examination.{first_from};
 
@@ -10,6 +10,7 @@ use crate::fault::TestFault;
 use crate::plan::Plan;
 use examination::examine;
 use marking::mark;
+use marks::marks::Marks;
 use table::limits;
 use table::questions::Table;
 
@@ -52,11 +53,21 @@ impl Plan {
     }
 }
 
-/// Whether the table can be closed; answers how many edges the closed table has.
+/// The least marks of a table that can be closed, and how many edges the closed table has.
 #[tactic(auto, using(crate::proofs::Fitting::deciding))]
-pub(crate) fn test<T: Table>(table: &T) -> Result<usize, TestFault>
-    ensures { Tests (T.lists table.now) (testing result) }
+pub fn measure<T: Table>(table: &T) -> Result<(Marks, usize), TestFault>
+    ensures { Measured (T.lists table.now) (measuring result) }
 {
     let marks = mark(table)?;
-    Plan::of(table, &marks).check_room(table)
+    let edges = Plan::of(table, &marks).check_room(table)?;
+    Ok((marks, edges))
+}
+
+/// Whether the table can be closed; answers how many edges the closed table has.
+#[tactic(auto, using(crate::proofs::Fitting::tests_measured))]
+pub fn test<T: Table>(table: &T) -> Result<usize, TestFault>
+    ensures { Tests (T.lists table.now) (testing result) }
+{
+    let (_, edges) = measure(table)?;
+    Ok(edges)
 }

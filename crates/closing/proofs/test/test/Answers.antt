@@ -1,12 +1,9 @@
-use Rattle.std.proofs.Common.{sym}
-use Rattle.std.proofs.lemmas.Result.{err_from_is_err_and}
-use Rattle.closing.proofs.Fitting.{tests-refused}
-use Rattle.closing.specs.Faults.{testing}
-use Rattle.refusal.specs.Refusals.{table_refusal}
+use Rattle.std.proofs.Common.{Ok, sym, ap}
+use Rattle.std.specs.Result.{result_map_both}
+use Rattle.closing.proofs.Fitting.{tests_measured}
+use Rattle.closing.specs.Faults.{test_refusal}
 use Rattle.closing.proofs.test.test.Goals as goal
 
-pub returns-in_err-marks : goal.returns-in_err-marks
-returns-in_err-marks g c =
-    let T = g.T.Table.lists c.args.table.now in
-    let p = err_from_is_err_and c.from_residual.result c.from_residual.ensures.1 in
-    tests-refused T (table_refusal c.in_err-marks.field-0.0) (testing c.from_residual.result) (sym c.in_err-marks.ensures.refused) (rw (p.1, p.2))
+pub returns : goal.returns
+returns g c =
+    tests_measured (g.T.Table.lists c.args.table.now) c.measure.result (Ok c.in_ok-edges.edges) c.measure.ensures (ap (result_map_both (λ x. x.1) test_refusal) (sym c.in_ok-edges.was))
