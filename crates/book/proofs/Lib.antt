@@ -1,0 +1,3 @@
+pub mod Dealing
+pub mod Histories
+pub mod Memories
