@@ -82,6 +82,17 @@ module _ {s0 s1 s2 s3 s4 s5 s6 s7 s8 : Reader} {n : Counts} (places : List ℕ) 
       let l = length-row (signal_format n.processes) absent s8.bytes.now s2.place 6 n.signals in
       omega (arith, ap (λ k. processes_bits (processes_from k (take n.processes places))) b)
 
+  pub sheet-names_at : s3.place ≡ edges_bit (lists_of (record { bytes = s8.bytes; counts = n; places = places; signals_at = s2.place; edges_at = s3.place; terms_at = s4.place; names_at = s6.place / 8 })) →
+      n.processes ≤ 8 → length places ≡ 8 → s4.place ≡ s3.place + 60 * n.edges → s5.place ≡ s4.place + 20 * n.terms → s6.place ≡ s5.place + (8 - s5.place % 8) % 8 →
+      s6.place / 8 ≡ names_byte (lists_of (record { bytes = s8.bytes; counts = n; places = places; signals_at = s2.place; edges_at = s3.place; terms_at = s4.place; names_at = s6.place / 8 }))
+  unfolding lists_of
+  sheet-names_at edges few long m4 m5 m6 =
+      let bs = s8.bytes.now in
+      let l = length-processes bs places n.processes in
+      let e = length-row edge_format no_edge bs s3.place 60 n.edges in
+      let t = length-row term_format no_term bs s4.place 20 n.terms in
+      omega arith
+
   pub sheet-opened : s3.place ≡ edges_bit (lists_of (record { bytes = s8.bytes; counts = n; places = places; signals_at = s2.place; edges_at = s3.place; terms_at = s4.place; names_at = s6.place / 8 })) →
       n.processes ≤ 8 → length places ≡ 8 → s4.place ≡ s3.place + 60 * n.edges → s5.place ≡ s4.place + 20 * n.terms → s6.place ≡ s5.place + (8 - s5.place % 8) % 8 →
       placed (s6.place / 8) (texts_at s6.bytes.now (s6.place / 8) m) ≡ named_at s6.bytes.now (s6.place / 8) m →
@@ -94,9 +105,7 @@ module _ {s0 s1 s2 s3 s4 s5 s6 s7 s8 : Reader} {n : Counts} (places : List ℕ) 
       let texts = texts_at bs (s6.place / 8) (n.processes + n.signals) in
       let b : s6.bytes.now ≡ bs = sym (h8.same ∙ h7.same) in
       let l : length T.processes ≡ n.processes = omega (arith, length-processes bs places n.processes) in
-      let e = length-row edge_format no_edge bs s3.place 60 n.edges in
-      let t = length-row term_format no_term bs s4.place 20 n.terms in
-      let a : names_byte T ≡ s6.place / 8 = omega arith in
+      let a : names_byte T ≡ s6.place / 8 = sym (sheet-names_at edges few long m4 m5 m6) in
       let laid2 : placed (s6.place / 8) (texts_at bs (s6.place / 8) m) ≡ named_at bs (s6.place / 8) m =
       subst (λ (ys : List ℕ). placed (s6.place / 8) (texts_at ys (s6.place / 8) m) ≡ named_at ys (s6.place / 8) m) b laid in
       let names : placed (s6.place / 8) texts ≡ names_of s =

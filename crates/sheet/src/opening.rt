@@ -9,7 +9,7 @@ ghost use Rattle.reading.specs.Layout.{sheet_format};
 ghost use Rattle.reading.specs.Opening.{edges_bit, names_byte, placed, split, edge_refused_at, opened};
 ghost use Rattle.reading.specs.Readings.{Reads};
 ghost use Rattle.reading.specs.Spelling.{Inverse};
-ghost use Rattle.sheet.specs.Views.{contents_of, lists_of, opened_of};
+ghost use Rattle.sheet.specs.Views.{bytes_of, contents_of, lists_of, opened_of};
 
 use crate::view::Sheet;
 use examination::edge;
@@ -25,6 +25,8 @@ fn read_sheet<'a>(reader: &mut Reader<'a>) -> Result<Sheet<'a>, SheetFault>
     requires { reader.old.place ≡ 0 }
     ensures reads { Reads sheet_format.reads contents_of reader.old result reader.new }
     ensures edges { IfOk result (λ s. s.edges_at ≡ edges_bit (lists_of s)) }
+    ensures bytes { IfOk result (λ s. bytes_of s ≡ reader.old.bytes.now) }
+    ensures place { IfOk result (λ s. s.names_at ≡ names_byte (lists_of s)) }
     ensures names { IfOk result (λ s. opened_of s ≡ split (lists_of s) (placed (names_byte (lists_of s)) (contents_of s).names)) }
 {
     let counts = reader.header()?;
@@ -73,6 +75,8 @@ fn check_edges(sheet: &Sheet<'_>) -> Result<(), EdgeAt>
 pub fn open_sheet(bytes: &[u8]) -> Result<Sheet<'_>, SheetFault>
     ensures value { result_map_both opened_of sheet_refusal result ≡ opened bytes.now }
     ensures inverse { Inverse bytes.now }
+    ensures bytes { IfOk result (λ s. bytes_of s ≡ bytes.now) }
+    ensures place { IfOk result (λ s. s.names_at ≡ names_byte (lists_of s)) }
 {
     let sheet = read_sheet(&mut Reader::at(bytes, 0))?;
     check_edges(&sheet)?;

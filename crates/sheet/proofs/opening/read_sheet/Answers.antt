@@ -1,5 +1,5 @@
 use Rattle.std.proofs.Common.{◌≡◌, ◌+◌, ◌≤◌, length, arith, rules}
-use Rattle.sheet.proofs.Wholes.{sheet-read, sheet-edges, sheet-opened}
+use Rattle.sheet.proofs.Wholes.{sheet-read, sheet-edges, sheet-names_at, sheet-opened}
 use Rattle.sheet.proofs.opening.read_sheet.Goals as goal
 
 pub returns : goal.returns
@@ -21,6 +21,13 @@ returns c =
           c.terms.ensures.reads c.in_ok-terms.was c.fill.ensures.reads c.in_ok-fill.was
           m c.names.ensures.reads c.in_ok-names.was c.end.ensures.reads c.in_ok-end.was;
       edges = at;
+      bytes = search rules;
+      place =
+          sheet-names_at c.processes.new.places c.header.ensures.reads c.in_ok-counts.was c.processes.ensures.reads c.in_ok-processes.was
+          c.signals.ensures.reads c.in_ok-signals.was c.edges.ensures.reads c.in_ok-edges.was
+          c.terms.ensures.reads c.in_ok-terms.was c.fill.ensures.reads c.in_ok-fill.was
+          m c.names.ensures.reads c.in_ok-names.was c.end.ensures.reads c.in_ok-end.was
+          at few l c.in_ok-edges.ensures.moves c.in_ok-terms.ensures.moves c.in_ok-fill.ensures.moves;
       names =
           sheet-opened c.processes.new.places c.header.ensures.reads c.in_ok-counts.was c.processes.ensures.reads c.in_ok-processes.was
           c.signals.ensures.reads c.in_ok-signals.was c.edges.ensures.reads c.in_ok-edges.was

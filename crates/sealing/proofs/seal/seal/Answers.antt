@@ -1,0 +1,50 @@
+use Rattle.std.proofs.Common.{◌≡◌, drop, Err, sym, ap, ◌∙◌, inl, inr, arith}
+use Rattle.std.proofs.lemmas.Result.{err_from_is_err_and}
+use Rattle.closing.specs.Layers.{layered}
+use Rattle.marks.specs.Words.{marking}
+use Rattle.sealing.proofs.Sealing.{refused-once, sealed, unrefused-view, unwritten}
+use Rattle.sealing.specs.declared.fault.SealError.TheVariants.{Refused}
+use Rattle.sheet.specs.Views.{lists_of}
+use Rattle.sealing.proofs.seal.seal.Goals as goal
+
+pub returns : goal.returns
+returns c =
+    let s = c.in_ok-open.open in
+    let h = c.in_ok-open.ensures in
+    let bs = c.args.bytes.now in
+    let r = c.close_by-closed.result in
+    let at : c.name_area.result.now ≡ drop s.names_at bs = c.name_area.ensures ∙ ap (drop s.names_at) h.bytes in
+    record {
+      sealed =
+          sealed bs c.name_area.result.now s (layered r.plan (lists_of r.below)) (marking c.in_ok-open.marks) h.tests.0 h.opens h.inverse (λ i. omega (arith, c.type_inv.bytes i)) h.tests.1
+          c.close_by-closed.ensures.meaning at h.place c.in_ok-sheet.sheet.items c.in_ok-sheet.ensures.sheet;
+      refused = tt;
+      told = λ f k. absurd (unrefused-view bs f s (marking c.in_ok-open.marks, h.tests.0) k h.opens h.tests.1);
+    }
+
+pub returns-in_err-sheet-clause-refused : goal.returns-in_err-sheet-clause-refused
+returns-in_err-sheet-clause-refused c =
+    let s = c.in_ok-open.open in
+    let h = c.in_ok-open.ensures in
+    let bs = c.args.bytes.now in
+    let r = c.close_by-closed.result in
+    let at : c.name_area.result.now ≡ drop s.names_at bs = c.name_area.ensures ∙ ap (drop s.names_at) h.bytes in
+    let p = err_from_is_err_and c.from_residual-in_err-sheet.result c.from_residual-in_err-sheet.ensures.1 in
+    rw (p.1, p.2) (λ f k. inr
+    (unwritten bs c.name_area.result.now s (layered r.plan (lists_of r.below)) (marking c.in_ok-open.marks) h.tests.0 h.opens h.inverse (λ i. omega (arith, c.type_inv.bytes i)) h.tests.1
+    c.close_by-closed.ensures.meaning at h.place f (c.in_err-sheet.ensures.refused f k)))
+
+pub returns-in_err-sheet-clause-told : goal.returns-in_err-sheet-clause-told
+returns-in_err-sheet-clause-told c =
+    let h = c.in_ok-open.ensures in
+    λ f k. absurd (unrefused-view c.args.bytes.now f c.in_ok-open.open (marking c.in_ok-open.marks, h.tests.0) k h.opens h.tests.1)
+
+pub returns-in_err-summary-clause-told : goal.returns-in_err-summary-clause-told
+returns-in_err-summary-clause-told c =
+    let h = c.in_ok-open.ensures in
+    λ f k. absurd (unrefused-view c.args.bytes.now f c.in_ok-open.open (marking c.in_ok-open.marks, h.tests.0) k h.opens h.tests.1)
+
+pub returns-in_err-open-clause-told : goal.returns-in_err-open-clause-told
+returns-in_err-open-clause-told c =
+    let p = err_from_is_err_and c.from_residual.result c.from_residual.ensures.1 in
+    λ f k. p.1 ∙ ap Err (p.2 ∙ ap Refused (sym (refused-once c.args.bytes.now f c.in_err-open.field-0.0 k c.in_err-open.ensures.refused)))
