@@ -1,8 +1,11 @@
-//! Lists the marks of many small sheets, good and damaged, and of the largest; what it writes is compared with what is expected.
+//! Lists the marks of many small sheets, good and damaged, and of the largest, and says what closing does to two of them; what it
+//! writes is compared with what is expected.
 //! A line of the file `cases.txt` is a name, a colon, and the bytes of a sheet in hexadecimal.
 #![tactic(auto)]
 
 use listing::list;
+use sealing::fault::SealError;
+use sealing::seal::seal;
 use std::alloc::{AllocError, Global};
 use std::fs;
 
@@ -39,6 +42,16 @@ fn tell(rt: &HostRuntime, name: &str, sheet: &[u8]) -> anyhow::Result<()> {
     Ok(())
 }
 
+/// What closing the sheet did, or why it cannot be closed.
+fn tell_closed(rt: &HostRuntime, sheet: &[u8]) -> anyhow::Result<()> {
+    match seal(rt.alloc(), sheet) {
+        Ok(sealed) => rt.print(sealed.summary.as_str())?,
+        Err(SealError::Refused(refusal)) => println!(rt; "{refusal}")?,
+        Err(SealError::OutOfMemory) => return Err(AllocError.into()),
+    }
+    Ok(())
+}
+
 fn run(rt: &HostRuntime) -> anyhow::Result<()> {
     let text = fs::read_to_string(rt, "cases.txt")?;
     for line in text.as_str().lines() {
@@ -48,7 +61,9 @@ fn run(rt: &HostRuntime) -> anyhow::Result<()> {
         }
     }
     let largest = fs::read(rt, "largest.sheet")?;
-    tell(rt, "the largest sheet", &largest)
+    tell(rt, "the largest sheet", &largest)?;
+    tell_closed(rt, &fs::read(rt, "gate.sheet")?)?;
+    tell_closed(rt, &largest)
 }
 
 fn main(rt: HostRuntime) -> anyhow::Result<()> {
