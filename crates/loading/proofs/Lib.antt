@@ -1,0 +1,4 @@
+pub mod Built
+pub mod Filling
+pub mod Following
+pub mod Limited

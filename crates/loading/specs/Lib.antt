@@ -1,0 +1,4 @@
+pub mod Copies
+pub mod Following
+pub mod Indexing
+pub mod Loading
