@@ -1,5 +1,5 @@
 -- What leaves a location: two tests in one pass. And the value of an edge that has none.
-use Rattle.std.proofs.Common.{◌≡◌, ℕ, Bool, true, false, not, ◌&&◌, ◌||◌, List, [], ◌∷◌, ℤ, pos, Some, None, unwrap_or, sym, refl, ap, ◌∙◌, arith}
+use Rattle.std.proofs.Common.{◌≡◌, ℕ, ◌+◌, Bool, true, false, not, ◌&&◌, ◌||◌, List, [], ◌∷◌, ℤ, pos, drop, Some, None, unwrap_or, sym, refl, ap, ◌∙◌, arith}
 use Rattle.std.proofs.lemmas.Bool.Decides.{nat_tests}
 use Rattle.std.specs.List.{slice_get, list_any}
 use Rattle.evaluation.specs.Values.{value_of}
@@ -10,6 +10,15 @@ use Rattle.table.specs.Examination.{leaves, acts, some}
 use Rattle.table.specs.Lists.{Lists}
 use Rattle.table.specs.declared.record.Edge.{Edge}
 use Rattle.table.proofs.Passing.{none-some}
+use Rattle.table.proofs.Windows.{drop-some}
+use Rattle.loading.specs.Following.{leaving}
+
+-- an edge that does not pass is none of those that do
+pub any-later : (h : Edge → Bool) (es : List Edge) (k : ℕ) (e : Edge) → slice_get es k ≡ Some e → h e ≡ false → list_any h (drop k es) ≡ list_any h (drop (k + 1) es)
+any-later h es k e there f = ap (list_any h) (drop-some es k e there) ∙ ap (λ b. b || list_any h (drop (k + 1) es)) f
+
+pub not-leaving : (p l : ℕ) (f : Edge → Bool) (e : Edge) → leaving p l e ≡ false → leaves p l f e ≡ false
+not-leaving p l f e h = ap (λ b. b && f e) h
 
 -- either of two tests, in one pass
 any_either : (f g : Edge → Bool) (p l : ℕ) (es : List Edge) → list_any (leaves p l (λ e. f e || g e)) es ≡ (list_any (leaves p l f) es || list_any (leaves p l g) es)

@@ -6,12 +6,13 @@ ghost use Rattle.table.specs.Examination.{some};
 
 use crate::edges::any_leaving;
 use evaluation::{evaluate, is_true};
+use loading::leaving::Leaving;
 use table::questions::Table;
 use table::record::{Edge, Kind, Mode};
 use table::site::Site;
 
 /// Whether no acting edge leaves the location.
-pub(crate) fn waits<T: Table>(table: &T, site: Site) -> bool
+pub(crate) fn waits<T: Leaving>(table: &T, site: Site) -> bool
     ensures { result ≡ waiting (T.lists table.now) site.process site.location }
 {
     !any_leaving(table, site, Edge::acts)
@@ -24,7 +25,7 @@ fn takes(edge: &Edge, signal: u8) -> bool
 }
 
 /// Whether the location waits and no input there takes the signal.
-pub(crate) fn waits_without_input<T: Table>(table: &T, site: Site, signal: u8) -> bool
+pub(crate) fn waits_without_input<T: Leaving>(table: &T, site: Site, signal: u8) -> bool
     ensures { result ≡ (waiting (T.lists table.now) site.process site.location && not (some (T.lists table.now) (takes_signal signal) site.process site.location)) }
 {
     !any_leaving(table, site, |edge| edge.acts() || takes(edge, signal))
@@ -37,7 +38,7 @@ fn handles(edge: &Edge, timer: usize) -> bool
 }
 
 /// Whether the location waits and no timeout or rearm there handles the timer.
-pub(crate) fn waits_without_timeout<T: Table>(table: &T, site: Site, timer: usize) -> bool
+pub(crate) fn waits_without_timeout<T: Leaving>(table: &T, site: Site, timer: usize) -> bool
     ensures { result ≡ (waiting (T.lists table.now) site.process site.location && not (some (T.lists table.now) (handles timer) site.process site.location)) }
 {
     !any_leaving(table, site, |edge| edge.acts() || handles(edge, timer))
@@ -55,7 +56,7 @@ fn overrules<T: Table>(table: &T, edge: &Edge, variables: &[i16]) -> bool
 }
 
 /// Whether an else edge of the location may be taken.
-fn is_else_open<T: Table>(table: &T, site: Site, variables: &[i16]) -> bool
+fn is_else_open<T: Leaving>(table: &T, site: Site, variables: &[i16]) -> bool
     ensures { result ≡ otherwise (T.lists table.now) variables.now site.process site.location }
 {
     !any_leaving(table, site, |edge| overrules(table, edge, variables))
@@ -63,7 +64,7 @@ fn is_else_open<T: Table>(table: &T, site: Site, variables: &[i16]) -> bool
 
 /// Whether the edge's guard is true, of these variables.
 #[tactic(auto, unfolding(rules::specs::Steps::allowed))]
-pub(crate) fn is_allowed<T: Table>(table: &T, edge: &Edge, variables: &[i16]) -> bool
+pub(crate) fn is_allowed<T: Leaving>(table: &T, edge: &Edge, variables: &[i16]) -> bool
     ensures { result ≡ allowed (T.lists table.now) variables.now edge.now }
 {
     match edge.guarded() {

@@ -17,6 +17,7 @@ use crate::conditions::{is_allowed, value_of};
 use crate::fault::StateFault;
 use crate::state::State;
 use examination::edge::check;
+use loading::leaving::Leaving;
 use rules::step::Message;
 use table::questions::{Table, class_of, process_or_blank, signal_or_absent};
 use table::record::{Class, Edge, Kind};
@@ -73,7 +74,7 @@ impl State {
     }
 
     /// Whether the edge's process is where it begins, its guard is true and its kind ready.
-    fn is_ready<T: Table>(&self, table: &T, memory: &[Message], edge: &Edge) -> bool
+    fn is_ready<T: Leaving>(&self, table: &T, memory: &[Message], edge: &Edge) -> bool
         requires there { edge.now.process < self.now.count }
         requires places { 16 * edge.now.process + 16 ≤ length memory.now }
         requires limits { limits_refused (T.lists table.now) ≡ None }
@@ -88,7 +89,7 @@ impl State {
 
     /// Whether the edge breaks no rule and is ready.
     #[tactic(auto, unfolding(rules::specs::Steps::enabled))]
-    fn is_enabled<T: Table>(&self, table: &T, memory: &[Message], edge: &Edge) -> bool
+    fn is_enabled<T: Leaving>(&self, table: &T, memory: &[Message], edge: &Edge) -> bool
         requires { state_refused (T.lists table.now) (world_of self.now memory.now) ≡ None }
         ensures { result ≡ enabled (T.lists table.now) (world_of self.now memory.now) edge.now }
     {
@@ -159,7 +160,7 @@ impl State {
     }
 
     /// The process of edge k moves along it.
-    pub(crate) fn move_along<T: Table>(
+    pub(crate) fn move_along<T: Leaving>(
         &mut self,
         table: &T,
         memory: &mut [Message],

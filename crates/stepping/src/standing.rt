@@ -9,8 +9,8 @@ ghost use Rattle.stepping.specs.Worlds.{world_of};
 
 use crate::fault::StateFault;
 use crate::state::State;
-use examination::bounds::check_limits;
 use examination::first::first_fault;
+use loading::leaving::Leaving;
 use rules::step::Message;
 use table::questions::{Table, process_or_blank};
 
@@ -35,14 +35,14 @@ impl State {
 
     /// Whether the table has another count of processes, or is beyond its limits.
     #[tactic(auto, using(crate::proofs::Worlds::length_world))]
-    fn is_unlike<T: Table>(&self, table: &T) -> bool
+    fn is_unlike<T: Leaving>(&self, table: &T) -> bool
         ensures { (m : List Message) → result ≡ unlike (T.lists table.now) (world_of self.now m) }
     {
-        self.count != table.process_count() || check_limits(table).is_err()
+        self.count != table.process_count() || table.check_limits().is_err()
     }
 
     /// Whether the state and the memory can run the table.
-    pub(crate) fn check<T: Table>(&self, table: &T, memory: &[Message]) -> Result<(), StateFault>
+    pub(crate) fn check<T: Leaving>(&self, table: &T, memory: &[Message]) -> Result<(), StateFault>
         ensures { outcome state_refusal result ≡ state_refused (T.lists table.now) (world_of self.now memory.now) }
     {
         if self.is_unlike(table) {

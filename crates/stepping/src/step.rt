@@ -7,6 +7,8 @@ ghost use Rattle.stepping.specs.Worlds.{after, beyond, world_of};
 
 use crate::fault::StateFault;
 use crate::state::State;
+use loading::leaving::Leaving;
+use loading::scanned::Scanned;
 use rules::step::{Message, Step};
 use table::questions::Table;
 
@@ -21,7 +23,7 @@ fn silent(done: Result<(), StateFault>) -> Result<Option<Message>, StateFault>
 impl State {
     /// Makes the step, of a state that can run the table.
     #[tactic(auto, unfolding(rules::specs::Steps::told))]
-    fn make<T: Table>(
+    fn make<T: Leaving>(
         &mut self,
         table: &T,
         memory: &mut [Message],
@@ -46,8 +48,25 @@ impl State {
 }
 
 /// Makes the step, and answers the message that leaves, if one does. A refused step changes nothing.
-#[tactic(auto, unfolding(rules::specs::Steps::stepped, rules::specs::Steps::next, rules::specs::Steps::step_refused))]
 pub fn step<T: Table>(
+    table: &T,
+    state: &mut State,
+    memory: &mut [Message],
+    call: Step,
+) -> Result<Option<Message>, StateFault>
+    ensures answer { stepping result ≡ stepped (T.lists table.now) (world_of state.old memory.old) call }
+    ensures world { world_of state.new memory.new ≡ next (T.lists table.now) (world_of state.old memory.old) call }
+    ensures beyond { beyond state.new ≡ beyond state.old }
+    ensures after { after state.old memory.new ≡ after state.old memory.old }
+    ensures state { IfErr result (λ f. state.new ≡ state.old) }
+    ensures memory { IfErr result (λ f. memory.new ≡ memory.old) }
+{
+    step_on(&Scanned { table }, state, memory, call)
+}
+
+/// Makes the step, as `step` does, and asks the table only for the edges of the locations that matter.
+#[tactic(auto, unfolding(rules::specs::Steps::stepped, rules::specs::Steps::next, rules::specs::Steps::step_refused))]
+pub fn step_on<T: Leaving>(
     table: &T,
     state: &mut State,
     memory: &mut [Message],

@@ -13,12 +13,13 @@ use crate::conditions::waits;
 use crate::fault::StateFault;
 use crate::state::State;
 use examination::first::first_fault;
+use loading::leaving::Leaving;
 use rules::step::Message;
 use table::questions::{Table, process_or_blank};
 
 impl State {
     /// Whether process p waits, has no message, and none of its timers is at on(0).
-    fn is_resting<T: Table>(&self, table: &T, p: usize) -> bool
+    fn is_resting<T: Leaving>(&self, table: &T, p: usize) -> bool
         requires there { p < self.now.count }
         requires limits { limits_refused (T.lists table.now) ≡ None }
         ensures { (m : List Message) → 16 * p + 16 ≤ length m → result ≡ rests (T.lists table.now) p (at (world_of self.now m) p) }
@@ -27,7 +28,7 @@ impl State {
         self.processes[p].is_idle(timers) && waits(table, self.site(p))
     }
 
-    fn check_rest<T: Table>(&self, table: &T, p: usize) -> Result<(), StateFault>
+    fn check_rest<T: Leaving>(&self, table: &T, p: usize) -> Result<(), StateFault>
         requires there { p < self.now.count }
         requires limits { limits_refused (T.lists table.now) ≡ None }
         ensures { (m : List Message) → 16 * p + 16 ≤ length m → outcome state_refusal result ≡ restless (T.lists table.now) p (at (world_of self.now m) p) }
@@ -40,7 +41,7 @@ impl State {
     }
 
     /// Whether every process rests.
-    fn check_rests<T: Table>(&self, table: &T, memory: &[Message]) -> Result<(), StateFault>
+    fn check_rests<T: Leaving>(&self, table: &T, memory: &[Message]) -> Result<(), StateFault>
         requires limits { limits_refused (T.lists table.now) ≡ None }
         requires places { (p : ℕ) → p < self.now.count → 16 * p + 16 ≤ length memory.now }
         ensures { outcome state_refusal result ≡ call_refused (T.lists table.now) (world_of self.now memory.now) Tick }
@@ -73,7 +74,11 @@ impl State {
     }
 
     /// The clock ticks, where every process rests.
-    pub(crate) fn tick<T: Table>(&mut self, table: &T, memory: &[Message]) -> Result<(), StateFault>
+    pub(crate) fn tick<T: Leaving>(
+        &mut self,
+        table: &T,
+        memory: &[Message],
+    ) -> Result<(), StateFault>
         requires { state_refused (T.lists table.now) (world_of self.old memory.now) ≡ None }
         ensures refused { outcome state_refusal result ≡ call_refused (T.lists table.now) (world_of self.old memory.now) Tick }
         ensures world { let W = world_of self.old memory.now in world_of self.new memory.now ≡ (if is_ok result then effect (T.lists table.now) W Tick else W) }

@@ -13,8 +13,9 @@ ghost use Rattle.table.specs.declared.record.Timer.TheVariants.{Off};
 use crate::conditions::{waits_without_input, waits_without_timeout};
 use crate::fault::StateFault;
 use crate::state::State;
+use loading::leaving::Leaving;
 use rules::step::Message;
-use table::questions::{Table, process_or_blank};
+use table::questions::process_or_blank;
 use table::record::Timer;
 use table::site::Site;
 
@@ -50,7 +51,7 @@ impl State {
     }
 
     #[tactic(auto, using(crate::proofs::Leaving::untaken_none, crate::proofs::Leaving::untaken_some), unfolding(rules::specs::Steps::discards))]
-    fn can_discard<T: Table>(&self, table: &T, memory: &[Message], p: usize) -> bool
+    fn can_discard<T: Leaving>(&self, table: &T, memory: &[Message], p: usize) -> bool
         requires there { p < self.now.count }
         requires places { 16 * p + 16 ≤ length memory.now }
         ensures { result ≡ discards (T.lists table.now) (world_of self.now memory.now) p }
@@ -62,7 +63,7 @@ impl State {
     }
 
     #[tactic(auto, unfolding(rules::specs::Steps::expires))]
-    fn can_expire<T: Table>(&self, table: &T, p: usize, timer: usize) -> bool
+    fn can_expire<T: Leaving>(&self, table: &T, p: usize, timer: usize) -> bool
         requires { p < self.now.count }
         ensures { (m : List Message) → result ≡ expires (T.lists table.now) (world_of self.now m) p timer }
     {
@@ -71,7 +72,7 @@ impl State {
 
     /// A process drops the head of its queue.
     #[tactic(auto, unfolding(rules::specs::Steps::call_refused, rules::specs::Steps::effect))]
-    pub(crate) fn discard<T: Table>(
+    pub(crate) fn discard<T: Leaving>(
         &mut self,
         table: &T,
         memory: &[Message],
@@ -96,7 +97,7 @@ impl State {
 
     /// A process turns off a timer that ran out.
     #[tactic(auto, unfolding(rules::specs::Steps::call_refused, rules::specs::Steps::effect))]
-    pub(crate) fn expire<T: Table>(
+    pub(crate) fn expire<T: Leaving>(
         &mut self,
         table: &T,
         memory: &[Message],

@@ -1,18 +1,23 @@
-use Rattle.std.proofs.Common.{◌≡◌, ℕ, ◌+◌, ◌≤◌, ◌||◌, Bool, true, false, List, length, take, sym, ap, ◌∙◌, None, Some, arith, rules}
+use Rattle.std.proofs.Common.{◌≡◌, ◌+◌, ◌≤◌, true, false, length, drop, sym, ap, ◌∙◌, None, arith, rules}
 use Rattle.std.specs.Fn.{FnReturnsAt}
 use Rattle.std.specs.List.{list_any, slice_get}
 use Rattle.std.proofs.lemmas.Bool.{and_from, and_left, and_right}
-use Rattle.std.proofs.lemmas.List.{take_all}
+use Rattle.std.proofs.lemmas.List.{drop_all}
 use Rattle.std.proofs.lemmas.Map.Keys.{any_passes_from_place}
+use Rattle.loading.proofs.Following.{next-any-to, past-none}
 use Rattle.table.specs.Examination.{leaves}
-use Rattle.table.specs.declared.record.Edge.{Edge}
-use Rattle.examination.proofs.Raised.{any_push, take-some, take_none}
+use Rattle.stepping.proofs.Leaving.{any-later, not-leaving}
 use Rattle.stepping.proofs.edges.any_leaving.Goals as goal
 use Rattle.stepping.proofs.edges.any_leaving.Goals.{in_default-via-in-None-1, in_default-via-in-Some+else-leaves, in_default-via-in-Some+then-leaves+else-test}
 
--- one edge more that does not pass
-none_more : (h : Edge → Bool) (es : List Edge) (k : ℕ) (e : Edge) → list_any h (take k es) ≡ false → slice_get es k ≡ Some e → h e ≡ false → list_any h (take (k + 1) es) ≡ false
-none_more h es k e none there f = ap (list_any h) (take-some es k e there) ∙ any_push h (take k es) e ∙ ap (λ b. b || h e) none ∙ f
+pub loop-k-init : goal.loop-k-init
+loop-k-init g c = (
+  c.requires,
+  λ f told.
+      let s = c.args.site in
+      let n = c.next_leaving-k in
+      next-any-to (g.T.Table.lists c.args.table.now).edges s.process s.location 0 n.result n.ensures.above n.ensures.before (leaves s.process s.location f) (not-leaving s.process s.location f),
+)
 
 pub returns-in-loop-k : goal.returns-in-loop-k
 returns-in-loop-k g c f told =
@@ -30,17 +35,18 @@ loop-k-preserved g c = (
       let k = c.loop-k.k in
       let s = c.args.site in
       let h = leaves s.process s.location f in
-      let none = c.loop-k.invariant.1 f told in
-      elim c.in_default.branch [
-        | in_default-via-in-None-1 w ↦ let z : slice_get es k ≡ None = search rules in ap (list_any h) (take_none es k z) ∙ none
+      let n = c.next_leaving-k-in-loop-k in
+      let later : list_any h (drop k es) ≡ list_any h (drop (k + 1) es) = elim c.in_default.branch [
+        | in_default-via-in-None-1 w ↦ let z : slice_get es k ≡ None = search rules in let past = past-none es k z in absurd (omega arith)
         | in_default-via-in-Some+else-leaves w ↦
             let e = w.in-Some.edge in
-            none_more h es k e none (sym w.in-Some.ensures) (and_left _ (f e) (sym w.if-leaves.ensures))
+            any-later h es k e (sym w.in-Some.ensures) (and_left _ (f e) (sym w.if-leaves.ensures))
         | in_default-via-in-Some+then-leaves+else-test w ↦
             let e = w.in-Some.edge in
             let t : FnReturnsAt g.F.Fn c.args.test e false = search rules in
-            none_more h es k e none (sym w.in-Some.ensures) (and_right _ (f e) (sym (told e false t)))
-      ],
+            any-later h es k e (sym w.in-Some.ensures) (and_right _ (f e) (sym (told e false t)))
+      ] in
+      c.loop-k.invariant.1 f told ∙ later ∙ next-any-to es s.process s.location (k + 1) n.result n.ensures.above n.ensures.before h (not-leaving s.process s.location f),
 )
 
 pub returns : goal.returns
@@ -48,4 +54,4 @@ returns g c f told =
     let es = (g.T.Table.lists c.args.table.now).edges in
     let s = c.args.site in
     let le : length es ≤ c.loop-k.k = omega arith in
-    sym (c.loop-k.invariant.1 f told) ∙ ap (list_any (leaves s.process s.location f)) (take_all c.loop-k.k es le)
+    sym (c.loop-k.invariant.1 f told ∙ ap (list_any (leaves s.process s.location f)) (drop_all c.loop-k.k es le))
