@@ -64,17 +64,20 @@ module _ (c : Contents) where
   counts-fit : 1 ≤ length c.lists.processes → too_many c.lists ≡ false → SheetCounts (counts_of c.lists)
   counts-fit some h = record { some = some; processes = grind (arith, nat_tests); signals = grind (arith, nat_tests); edges = grind (arith, nat_tests); terms = grind (arith, nat_tests) }
 
-  pub good_writable : SheetContents c → edges_refused c.lists ≡ None → IsWritable c
+  good-limits : SheetContents c → limits_refused c.lists ≡ None
   unfolding limits_refused
-  good_writable g edges =
+  good-limits g =
       let T = c.lists in
       let n = length T.processes in
-      let some = g.counts.some in
       let processes = all-limit bad_process T.processes (λ k d l. (g.processes k d l).limits) in
-      let signals = all-limit (bad_signal n) T.signals (λ k d l. good-signal n some (get_or T.signals k d) (g.signals k d l)) in
+      let signals = all-limit (bad_signal n) T.signals (λ k d l. good-signal n g.counts.some (get_or T.signals k d) (g.signals k d l)) in
+      parts_none (lists_refused T) (option_or (processes_refused T) (signals_refused T)) (rw (counts-limited g.counts)) (parts_none (processes_refused T) (signals_refused T) processes signals)
+
+  pub good_writable : SheetContents c → edges_refused c.lists ≡ None → IsWritable c
+  good_writable g edges =
       record {
-        some = some;
-        limits = parts_none (lists_refused T) (option_or (processes_refused T) (signals_refused T)) (rw (counts-limited g.counts)) (parts_none (processes_refused T) (signals_refused T) processes signals);
+        some = g.counts.some;
+        limits = good-limits g;
         edges = edges;
         records = record { processes = λ k d l. (g.processes k d l).fits; terms = g.terms };
         named = g.named;
@@ -96,6 +99,10 @@ module _ (c : Contents) where
         named = w.named;
         names = w.names;
       }
+
+-- the table that a sheet's fields give is within its limits
+pub read-limits : (bs : List ℕ) (c : Contents) (q : ℕ) → sheet_format.reads bs 0 ≡ got c q → limits_refused c.lists ≡ None
+read-limits bs c q e = good-limits c (exact-sheet.back bs 0 q c (omega arith) e).fact
 
 module _ (T : Lists) where
   abbrev edge_at : ℕ → ℕ → Refusal

@@ -9,7 +9,7 @@ use Rattle.std.specs.List.{All, flat_map}
 use Rattle.reading.specs.Formats.{Field, Format, bits, fill, field, plain, signed}
 use Rattle.reading.specs.Layout.{Contents, counts_of, header_format, on_bit, ticks, timer_format, process_format, signal_format, span_format, edge_format, term_format, name_format, sheet_format}
 use Rattle.reading.specs.Opening.{process_bits, processes_bits, edges_bit, names_byte}
-use Rattle.reading.specs.Spelling.{AreBytes, FitsProcess, FitsRecords, IsSheet, Spells, area_of, ends}
+use Rattle.reading.specs.Spelling.{AreBytes, FitsProcess, IsSheet, Spells, area_of, ends}
 use Rattle.reading.specs.declared.records.Counts.{Counts}
 use Rattle.reading.proofs.Numbers.{number-byte}
 use Rattle.reading.proofs.Spelled.{ends-above, ends-append, spells-parts}

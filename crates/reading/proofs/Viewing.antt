@@ -1,18 +1,13 @@
 -- What a view's lists have at a place.
-use Rattle.std.proofs.Common.{◌≡◌, ℕ, ◌+◌, ◌*◌, ◌<◌, ◌≤◌, min, List, length, get_or, take, Some, None, Ok, Err, Result, ap, ◌∙◌, arith, length-take}
+use Rattle.std.proofs.Common.{◌≡◌, ℕ, ◌+◌, ◌*◌, ◌<◌, ◌≤◌, List, length, Some, None, Ok, Err, Result, ap, ◌∙◌, arith}
 use Rattle.std.proofs.lemmas.List.FromFn.{length-map-range_with_len, get_or-map-range_with_len}
-use Rattle.std.proofs.lemmas.List.{length-map, get_or-map, get_or-take}
 use Rattle.std.proofs.lemmas.Option.{slice_get-get_or, slice_get_past}
 use Rattle.std.specs.List.{slice_get}
 use Rattle.std.specs.Result as results
 use Rattle.reading.specs.Formats.{Answer, Format}
-use Rattle.reading.specs.Layout.{process_format}
 use Rattle.reading.specs.Readings.{Reads, told, value_or, read_at, row_at}
-use Rattle.reading.specs.Rows.{processes_from}
 use Rattle.reading.specs.declared.fault.SheetFault.{SheetFault}
 use Rattle.reading.specs.declared.reader.Reader.{Reader}
-use Rattle.table.specs.Edges.{blank}
-use Rattle.table.specs.Lists.{Proc}
 
 module _ {A : Type 0} (f : Format A) (d : A) (bs : List ℕ) (p w n : ℕ) where
   pub length-row : length (row_at f d bs p w n) ≡ n
@@ -35,12 +30,5 @@ read-or {f} {means} {s} {t} {r} d h = go r h.value
     go (Ok x) e = ap (λ a. value_or a (means d)) e
     go (Err y) e = ap (λ a. value_or a (means d)) e
 
-pub length-processes : (bs places : List ℕ) (n : ℕ) → length (processes_from bs (take n places)) ≡ min n (length places)
-length-processes bs places n = length-map (take n places) (λ p. read_at process_format blank bs p) ∙ length-take n places
-
-pub get_or-processes : (bs places : List ℕ) (n p : ℕ) (d : Proc) → p < n → p < length places → get_or (processes_from bs (take n places)) p d ≡ read_at process_format blank bs (get_or places p 0)
-get_or-processes bs places n p d h k =
-    get_or-map (λ q. read_at process_format blank bs q) (take n places) p 0 d (simp length-take (omega arith)) ∙ ap (read_at process_format blank bs) (get_or-take n places p 0 h)
-
 -- what a view's goals ask
-pub ruleset rows = (length-row, nth-row, nth-row-past, read-or, length-processes, get_or-processes)
+pub ruleset rows = (length-row, nth-row, nth-row-past, read-or)

@@ -5,16 +5,12 @@
 --   name_start bs a k   the length byte of the k-th name from byte a on
 --   texts_at bs a n     n names from byte a on
 --   named_at bs a n     the same with their places
---   processes_from bs ps   the processes whose records begin at the bits ps
---   signals_from bs p m n, edges_from bs p n, terms_from bs p n   the n records from bit p on, the signals in a sheet of m processes
+--   edges_from bs p n, terms_from bs p n   the n records from bit p on
 use Rattle.std.specs.Prelude.{ℕ, zero, suc, ◌+◌, List, map, take, drop, pos, slice_index}
 use Rattle.std.specs.List.{range_with_len}
-use Rattle.reading.specs.Layout.{process_format, signal_format, edge_format, term_format}
-use Rattle.reading.specs.Readings.{read_at, row_at}
-use Rattle.table.specs.Edges.{blank, absent}
-use Rattle.table.specs.Lists.{Proc}
+use Rattle.reading.specs.Layout.{edge_format, term_format}
+use Rattle.reading.specs.Readings.{row_at}
 use Rattle.table.specs.declared.record.Edge.{Edge}
-use Rattle.table.specs.declared.record.Signal.{Signal}
 use Rattle.table.specs.declared.record.Term.{Term}
 
 abbrev pub no_edge : Edge
@@ -49,14 +45,8 @@ texts_at bs a n = map (λ k. text_at bs (name_start bs a k)) (range_with_len 0 n
 abbrev pub named_at : List ℕ → ℕ → ℕ → List (ℕ × List ℕ)
 named_at bs a n = map (λ k. (name_start bs a k + 1, text_at bs (name_start bs a k))) (range_with_len 0 n)
 
-abbrev pub signals_from : List ℕ → ℕ → ℕ → ℕ → List Signal
-signals_from bs p processes n = row_at (signal_format processes) absent bs p 6 n
-
 abbrev pub edges_from : List ℕ → ℕ → ℕ → List Edge
 edges_from bs p n = row_at edge_format no_edge bs p 60 n
 
 abbrev pub terms_from : List ℕ → ℕ → ℕ → List Term
 terms_from bs p n = row_at term_format no_term bs p 20 n
-
-abbrev pub processes_from : List ℕ → List ℕ → List Proc
-processes_from bs places = map (λ p. read_at process_format blank bs p) places

@@ -1,12 +1,12 @@
-//! Reading an edge's 60 bits at once.
+//! Reading an edge's 60 bits, or a term's 20, at once.
 ghost use Rattle.std.specs.Prelude.{◌≡◌, ◌+◌, ◌-◌, ◌*◌, ◌/◌, ◌%◌, ◌^◌, ◌<◌, ◌≤◌, length, IfSome};
 ghost use Rattle.reading.specs.Formats.{number};
-ghost use Rattle.reading.specs.Layout.{edge_format};
+ghost use Rattle.reading.specs.Layout.{edge_format, term_format};
 ghost use Rattle.reading.specs.Readings.{Room, read_at};
-ghost use Rattle.reading.specs.Rows.{no_edge};
+ghost use Rattle.reading.specs.Rows.{no_edge, no_term};
 
 use crate::reader::Reader;
-use table::record::{Edge, Span};
+use table::record::{Edge, Span, Term};
 
 /// The field of `width` bits at bit `at` of an edge's 60.
 fn part(word: u64, at: u32, width: u32) -> u16
@@ -29,6 +29,35 @@ impl<'a> Reader<'a> {
         let high = u64::from_be_bytes([a, b, c, d, e, f, g, h]);
         let window = u128::from(high) * 256 + u128::from(last);
         Some(((window >> (12 - self.place % 8)) & ((1 << 60) - 1)) as u64)
+    }
+
+    /// The next 20 bits, if the four bytes are there in which they lie.
+    fn short_word(&self) -> Option<u32>
+        ensures value { IfSome result (λ w. w ≡ number self.now.bytes.now self.now.place 20) }
+        ensures room { IfSome result (λ w. self.now.place + 20 ≤ 8 * length self.now.bytes.now) }
+        ensures bound { IfSome result (λ w. w < 1048576) }
+    {
+        let i = self.place / 8;
+        let &[a, b, c, d] = self.bytes.get(i..i + 4)?.first_chunk::<4>()?;
+        let window = u32::from_be_bytes([a, b, c, d]);
+        Some((window >> (12 - self.place % 8)) & ((1 << 20) - 1))
+    }
+
+    /// The term that lies here, or a term of zeros where the bytes end too soon.
+    pub fn term_here(&self) -> Term
+        requires { Room self.now 20 }
+        ensures value { result ≡ read_at term_format no_term self.now.bytes.now self.now.place }
+        ensures bound { result.operation ≤ 15 }
+    {
+        let Some(word) = self.short_word() else {
+            return Reader::at(self.bytes, self.place)
+                .term()
+                .unwrap_or_default();
+        };
+        Term {
+            operation: (word >> 16) as u8,
+            argument: ((word & 0xffff) as u16).cast_signed(),
+        }
     }
 
     /// The edge that lies here, or an edge of zeros where the bytes end too soon.

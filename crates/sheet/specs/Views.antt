@@ -6,22 +6,22 @@
 --   names_of s          the names with their places
 --   opened_of s         the table, and the names of processes and of signals with their places
 --   heard r             a name that was answered: its place, and what lies there
-use Rattle.std.specs.Prelude.{ℕ, ◌+◌, List, take, drop, Option}
+use Rattle.std.specs.Prelude.{ℕ, ◌+◌, List, map, take, drop, Option}
 use Rattle.std.specs.Borrow.{Bor}
 use Rattle.std.specs.Option.{option_map}
 use Rattle.reading.specs.Layout.{Contents}
 use Rattle.reading.specs.Opening.{Opened}
-use Rattle.reading.specs.Rows.{processes_from, signals_from, edges_from, terms_from, texts_at, named_at}
+use Rattle.reading.specs.Rows.{edges_from, terms_from, texts_at, named_at}
 use Rattle.sheet.specs.declared.view.Sheet.{Sheet}
-use Rattle.table.specs.Lists.{Lists}
+use Rattle.table.specs.Lists.{Lists, meant}
 
 abbrev pub bytes_of : Sheet → List ℕ
 bytes_of s = s.bytes.now
 
 unfoldable pub lists_of : Sheet → Lists
 lists_of s = record {
-  processes = processes_from (bytes_of s) (take s.counts.processes s.places);
-  signals = signals_from (bytes_of s) s.signals_at s.counts.processes s.counts.signals;
+  processes = map meant (take s.counts.processes s.processes);
+  signals = take s.counts.signals s.signals;
   edges = edges_from (bytes_of s) s.edges_at s.counts.edges;
   terms = terms_from (bytes_of s) s.terms_at s.counts.terms;
 }

@@ -1,8 +1,8 @@
 //! Opening a sheet: all its bits first, then its edges.
-ghost use Rattle.std.specs.Prelude.{◌≡◌, ◌^◌, ◌<◌, IfOk};
+ghost use Rattle.std.specs.Prelude.{◌≡◌, ◌^◌, ◌<◌, IfOk, None};
 ghost use Rattle.std.specs.List.{slice_get};
 ghost use Rattle.std.specs.Result.{result_map_both};
-ghost use Rattle.table.specs.Examination.{answer_at, first_at};
+ghost use Rattle.table.specs.Examination.{answer_at, first_at, limits_refused};
 ghost use Rattle.refusal.specs.Refusals.{outcome};
 ghost use Rattle.reading.specs.Faults.{edge_at_refusal, sheet_refusal};
 ghost use Rattle.reading.specs.Layout.{sheet_format};
@@ -18,22 +18,24 @@ use reading::fault::{EdgeAt, SheetFault};
 use reading::reader::Reader;
 use reading::records::EDGE_BITS;
 use table::limits;
+use table::record::{Process, Signal};
 
 /// All parts of a sheet.
 #[tactic(auto, unfolding(reading::specs::Formats::after, reading::specs::Layout::sheet_format))]
 fn read_sheet<'a>(reader: &mut Reader<'a>) -> Result<Sheet<'a>, SheetFault>
     requires { reader.old.place ≡ 0 }
     ensures reads { Reads sheet_format.reads contents_of reader.old result reader.new }
+    ensures limits { IfOk result (λ s. limits_refused (lists_of s) ≡ None) }
     ensures edges { IfOk result (λ s. s.edges_at ≡ edges_bit (lists_of s)) }
     ensures bytes { IfOk result (λ s. bytes_of s ≡ reader.old.bytes.now) }
     ensures place { IfOk result (λ s. s.names_at ≡ names_byte (lists_of s)) }
     ensures names { IfOk result (λ s. opened_of s ≡ split (lists_of s) (placed (names_byte (lists_of s)) (contents_of s).names)) }
 {
     let counts = reader.header()?;
-    let mut places = [0; limits::PROCESSES];
-    reader.processes(counts.processes, &mut places)?;
-    let signals_at = reader.place as u32;
-    reader.signals(counts.signals, counts.processes)?;
+    let mut processes = [Process::BLANK; limits::PROCESSES];
+    reader.processes(counts.processes, &mut processes)?;
+    let mut signals = [Signal::ABSENT; limits::SIGNALS];
+    reader.signals(counts.signals, counts.processes, &mut signals)?;
     let edges_at = reader.place as u32;
     reader.edges(counts.edges)?;
     let terms_at = reader.place as u32;
@@ -45,8 +47,8 @@ fn read_sheet<'a>(reader: &mut Reader<'a>) -> Result<Sheet<'a>, SheetFault>
     Ok(Sheet {
         bytes: reader.bytes,
         counts,
-        places,
-        signals_at,
+        processes,
+        signals,
         edges_at,
         terms_at,
         names_at,
@@ -76,6 +78,7 @@ pub fn open_sheet(bytes: &[u8]) -> Result<Sheet<'_>, SheetFault>
     ensures value { result_map_both opened_of sheet_refusal result ≡ opened bytes.now }
     ensures inverse { Inverse bytes.now }
     ensures bytes { IfOk result (λ s. bytes_of s ≡ bytes.now) }
+    ensures limits { IfOk result (λ s. limits_refused (lists_of s) ≡ None) }
     ensures place { IfOk result (λ s. s.names_at ≡ names_byte (lists_of s)) }
 {
     let sheet = read_sheet(&mut Reader::at(bytes, 0))?;

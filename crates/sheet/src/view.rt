@@ -3,19 +3,18 @@ ghost use Rattle.std.specs.Prelude.{◌≡◌, ◌+◌, ◌*◌, ◌≤◌, IfSo
 ghost use Rattle.sheet.specs.Views.{lists_of};
 
 use reading::reader::Reader;
-use reading::records::{Counts, EDGE_BITS, SIGNAL_BITS, TERM_BITS};
+use reading::records::{Counts, EDGE_BITS, TERM_BITS};
 use table::limits;
 use table::questions::Table;
 use table::record::{Edge, Process, Signal, Term};
 
-/// A view over the bytes of a sheet, with the places of its parts: bits, but for the names' byte.
+/// A view over the bytes of a sheet, with its processes and signals, and the places of its other parts: bits, but for the names' byte.
 #[derive(Clone, Copy)]
 pub struct Sheet<'a> {
     pub(crate) bytes: &'a [u8],
     pub(crate) counts: Counts,
-    /// Where each process begins.
-    pub(crate) places: [u32; limits::PROCESSES],
-    pub(crate) signals_at: u32,
+    pub(crate) processes: [Process; limits::PROCESSES],
+    pub(crate) signals: [Signal; limits::SIGNALS],
     pub(crate) edges_at: u32,
     pub(crate) terms_at: u32,
     pub(crate) names_at: u32,
@@ -42,7 +41,7 @@ impl<'a> Table for Sheet<'a> {
     }
 
     fn signal_count(&self) -> usize {
-        usize::from(self.counts.signals)
+        usize::from(self.counts.signals).min(limits::SIGNALS)
     }
 
     fn edge_count(&self) -> usize {
@@ -54,18 +53,15 @@ impl<'a> Table for Sheet<'a> {
     }
 
     fn process(&self, p: usize, place: &mut Process) -> bool {
-        let Some(&at) = self.places[..self.process_count()].get(p) else {
+        let Some(process) = self.processes[..self.process_count()].get(p) else {
             return false;
         };
-        let process = Reader::at(self.bytes, at as usize).process();
-        *place = process.unwrap_or(Process::BLANK);
+        *place = *process;
         true
     }
 
     fn signal(&self, s: usize) -> Option<Signal> {
-        let mut reader = self.record(self.signals_at, SIGNAL_BITS, self.counts.signals.into(), s)?;
-        let signal = reader.signal(self.counts.processes);
-        Some(signal.unwrap_or(Signal::ABSENT))
+        self.signals[..self.signal_count()].get(s).copied()
     }
 
     fn edge(&self, k: usize) -> Option<Edge> {
@@ -74,7 +70,7 @@ impl<'a> Table for Sheet<'a> {
     }
 
     fn term(&self, i: usize) -> Option<Term> {
-        let mut reader = self.record(self.terms_at, TERM_BITS, self.counts.terms, i)?;
-        Some(reader.term().unwrap_or_default())
+        let reader = self.record(self.terms_at, TERM_BITS, self.counts.terms, i)?;
+        Some(reader.term_here())
     }
 }

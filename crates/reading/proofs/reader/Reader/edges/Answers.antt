@@ -1,9 +1,18 @@
-use Rattle.std.proofs.Common.{rules}
+use Rattle.std.proofs.Common.{◌+◌, ◌*◌, length, refl, sym, ◌∙◌, arith, rules}
+use Rattle.std.proofs.lemmas.Bool.{leb-true}
 use Rattle.reading.specs.Layout.{edge_format}
 use Rattle.reading.specs.Rows.{no_edge}
+use Rattle.reading.proofs.Loads.{open-edge, passed_row}
 use Rattle.reading.proofs.reader.Reader.edges.Goals as goal
+
+pub returns-then-has : goal.returns-then-has
+returns-then-has c =
+    let s = c.args.self.now in
+    let n = c.from-count.ensures in
+    let room = leb-true (s.place + 60 * c.from-count.result) (8 * length s.bytes.now) (sym c.has.ensures ∙ c.if-has.true) in
+    record { reads = passed_row edge_format no_edge 60 c.args.count s _ (open-edge s.bytes.now) (omega arith) refl (omega arith); moves = omega arith }
 
 pub returns : goal.returns
 returns c =
-    let row = rw c.from.ensures at (c.row.ensures edge_format no_edge 60 (λ s r t k. search rules)) in
+    let row = rw c.from-count.ensures at (c.row.ensures edge_format no_edge 60 (λ s r t k. search rules)) in
     record { reads = row.reads; moves = row.moves }
