@@ -3,7 +3,9 @@ use Rattle.std.proofs.Common.{◌≡◌, ℕ, zero, suc, ◌<◌, Bool, true, fa
 use mathlib.Core.List.Memᴰ
 use mathlib.Core.List.{Memᴰ}
 use Rattle.std.proofs.lemmas.Bool.{or_cases, or_left, or_right, both_ways}
-use Rattle.std.specs.List.{slice_get, flat_map, list_any}
+use Rattle.std.proofs.lemmas.List.FromFn.{length-range_with_len, get_or-range_with_len}
+use Rattle.std.proofs.lemmas.Option.{slice_get-get_or, slice_get_within, get_or_from_slice_get}
+use Rattle.std.specs.List.{slice_get, flat_map, list_any, range_with_len}
 use Rattle.marks.specs.Rules.{indices}
 
 -- an element of xs with a property, and its place
@@ -42,14 +44,17 @@ found-joined f [] k x i e m = let z : ◌≡◌ {A = ℕ} 0 1 = cc in absurd (om
 found-joined f (y ∷ ys) zero x i e m = let q : x ≡ y = cc in Memᴰ.append_left (flat_map f ys) (subst (λ z. Memᴰ i (f z)) q m)
 found-joined f (y ∷ ys) (suc k) x i e m = Memᴰ.append_right (f y) (found-joined f ys k x i e m)
 
+-- the numbers below n, in order
+pub number-at : (n v : ℕ) → v < n → slice_get (range_with_len 0 n) v ≡ Some v
+number-at n v h =
+    slice_get-get_or (range_with_len 0 n) v 0 (omega (arith, length-range_with_len 0 n))
+    ∙ ap Some (omega (arith, get_or-range_with_len 0 n v 0 h))
+
+pub number-below : (n k v : ℕ) → slice_get (range_with_len 0 n) k ≡ Some v → v < n
+number-below n k v e =
+    let h = slice_get_within (range_with_len 0 n) k v e in
+    omega (arith, length-range_with_len 0 n, get_or-range_with_len 0 n k 0 (omega (arith, length-range_with_len 0 n)), get_or_from_slice_get (range_with_len 0 n) k v 0 e)
+
 pub index_at : (v : ℕ) → v < 8 → slice_get indices v ≡ Some v
 unfolding indices
-index_at zero h = refl
-index_at (suc zero) h = refl
-index_at (suc (suc zero)) h = refl
-index_at (suc (suc (suc zero))) h = refl
-index_at (suc (suc (suc (suc zero)))) h = refl
-index_at (suc (suc (suc (suc (suc zero))))) h = refl
-index_at (suc (suc (suc (suc (suc (suc zero)))))) h = refl
-index_at (suc (suc (suc (suc (suc (suc (suc zero))))))) h = refl
-index_at (suc (suc (suc (suc (suc (suc (suc (suc v)))))))) h = absurd (omega arith)
+index_at v h = number-at 8 v h

@@ -13,15 +13,17 @@ use Rattle.table.specs.declared.record.Kind.TheVariants.{Input, Output, Assignme
 use Rattle.marking.specs.Leads.{listed, received, received_as, touches, touches_as, is_internal, is_inbound, fed, fed_as, seeds, passed, fed_by, from_instance, from_signal, leads}
 use Rattle.marking.specs.Nodes.{node}
 use Rattle.marks.specs.Rules.{class_at, stores, stores_as, turns, turns_as}
+use Rattle.marks.specs.Words.{bit}
+use Rattle.marks.proofs.Bitwise.{bit-zero}
 use Rattle.marks.proofs.Good.{Named}
 
 not_some : {A : Type 0} (x : A) → None ≡ Some x → ⊥
 not_some x e = let z : ◌≡◌ {A = ℕ} 0 1 = cc in omega arith
 
-mem-listed : (o : Option ℕ) (j : ℕ) → o ≡ Some j → Memᴰ j (listed o)
+pub mem-listed : (o : Option ℕ) (j : ℕ) → o ≡ Some j → Memᴰ j (listed o)
 mem-listed o j e = subst (λ q. Memᴰ j (listed q)) (sym e) (Memᴰ.head refl)
 
-listed-mem : (o : Option ℕ) (j : ℕ) → Memᴰ j (listed o) → o ≡ Some j
+pub listed-mem : (o : Option ℕ) (j : ℕ) → Memᴰ j (listed o) → o ≡ Some j
 listed-mem None j m = absurd (Memᴰ.not-nil m)
 listed-mem (Some i) j m = ap Some (sym (Memᴰ.eq_of_singleton m))
 
@@ -62,7 +64,7 @@ receives-as e j Rearm q h = absurd (not_some j h)
 receives-as e j Skip q h = absurd (not_some j h)
 receives-as e j Unknown q h = absurd (not_some j h)
 
-receives-inv : (e : Edge) (j : ℕ) → received e ≡ Some j → Receives e j
+pub receives-inv : (e : Edge) (j : ℕ) → received e ≡ Some j → Receives e j
 unfolding received
 receives-inv e j h = receives-as e j (kind_of e.kind) refl h
 
@@ -95,7 +97,7 @@ feeds-as T e j Rearm q h = absurd (not_some j h)
 feeds-as T e j Skip q h = absurd (not_some j h)
 feeds-as T e j Unknown q h = absurd (not_some j h)
 
-feeds-inv : (T : Lists) (e : Edge) (j : ℕ) → fed T e ≡ Some j → Feeds T e j
+pub feeds-inv : (T : Lists) (e : Edge) (j : ℕ) → fed T e ≡ Some j → Feeds T e j
 unfolding fed
 feeds-inv T e j h = feeds-as T e j (kind_of e.kind) refl h
 
@@ -246,3 +248,31 @@ untouched-variable e b n = not-stored (kind_of e.kind) e b n
 pub untouched-timer : (e : Edge) (i : ℕ) → touches e (8 + i) ≡ false → turns e i ≡ false
 unfolding touches
 untouched-timer e i n = not-turned (kind_of e.kind) e i n
+
+-- bits that an edge leaves alone
+
+untouched-drop : (k : Kind) (e : Edge) (b : ℕ) → k ≡ Input → cond (eqb e.second 15) None (Some e.second) ≡ None → touches_as k e b ≡ false
+untouched-drop k e b q h = ap (λ x. touches_as x e b) q ∙ by (eqb e.second 15) h
+  where
+    by : (t : Bool) → cond t None (Some e.second) ≡ None → (not t && eqb e.second b) ≡ false
+    by true h = refl
+    by false h = let z : ◌≡◌ {A = ℕ} 0 1 = cc in absurd (omega arith)
+
+pub dropped-untouched : (e : Edge) → kind_of e.kind ≡ Input → cond (eqb e.second 15) None (Some e.second) ≡ None → (b : ℕ) → b < 16 → bit 0 b ≡ touches e b
+unfolding touches
+dropped-untouched e q h b l = bit-zero b ∙ sym (untouched-drop (kind_of e.kind) e b q h)
+
+untouched-other : (k : Kind) (e : Edge) (b : ℕ) → (k ≡ Input → ⊥) → (k ≡ Assignment → ⊥) → (k ≡ Set → ⊥) → (k ≡ Reset → ⊥) → (k ≡ Timeout → ⊥) → (k ≡ Rearm → ⊥) → touches_as k e b ≡ false
+untouched-other Input e b i a s r t m = absurd (i refl)
+untouched-other Output e b i a s r t m = refl
+untouched-other Assignment e b i a s r t m = absurd (a refl)
+untouched-other Set e b i a s r t m = absurd (s refl)
+untouched-other Reset e b i a s r t m = absurd (r refl)
+untouched-other Timeout e b i a s r t m = absurd (t refl)
+untouched-other Rearm e b i a s r t m = absurd (m refl)
+untouched-other Skip e b i a s r t m = refl
+untouched-other Unknown e b i a s r t m = refl
+
+pub others-untouched : (e : Edge) → (kind_of e.kind ≡ Input → ⊥) → (kind_of e.kind ≡ Assignment → ⊥) → (kind_of e.kind ≡ Set → ⊥) → (kind_of e.kind ≡ Reset → ⊥) → (kind_of e.kind ≡ Timeout → ⊥) → (kind_of e.kind ≡ Rearm → ⊥) → (b : ℕ) → b < 16 → bit 0 b ≡ touches e b
+unfolding touches
+others-untouched e i a s r t m b l = bit-zero b ∙ sym (untouched-other (kind_of e.kind) e b i a s r t m)

@@ -1,12 +1,12 @@
 mod Closure
-pub mod Finding
-mod Growing
+mod Finding
+mod Flowing
 mod Leading
+mod Masks
 mod Nodes
 mod Obeying
-pub mod Places
-mod Pushing
 mod Reaching
-pub mod Reading
-mod Scanning
+mod Reading
+mod Spreads
 mod Telling
+mod Waves

@@ -1,4 +1,5 @@
 pub mod Example
+pub mod Flows
 pub mod Leads
 pub mod Nodes
-pub mod Queue
+pub mod Spreading

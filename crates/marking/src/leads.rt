@@ -1,24 +1,36 @@
 //! Which nodes an edge leads to.
-ghost use Rattle.std.specs.Prelude.{◌≡◌};
+ghost use Rattle.std.specs.Prelude.{◌≡◌, ℕ, ◌+◌, ◌*◌, ◌<◌, ◌≤◌, IfSome};
 ghost use Rattle.marking.specs.Leads.{received, touches, fed};
-ghost use Rattle.marking.specs.Nodes.{node};
+ghost use Rattle.marks.specs.Words.{bit};
 
+use crate::word::single;
 use table::questions::{Table, class_of};
 use table::record::{Class, Edge, Kind};
 
-pub const SIGNALS: usize = 2048;
+const SIGNALS: usize = 2048;
 
-/// Bit `bit` of the word of the location that the edge goes to.
-pub fn node_at_end(edge: &Edge, bit: u16) -> usize
-    ensures value { result ≡ node edge.now.process edge.now.to bit }
+/// The word of the location that the edge goes to.
+pub fn word_at_end(edge: &Edge) -> usize
+    ensures value { result ≡ 16 * edge.now.process + edge.now.to }
+    ensures bound { result ≤ 4335 }
 {
-    256 * usize::from(edge.process) + 16 * usize::from(edge.to) + usize::from(bit)
+    16 * usize::from(edge.process) + usize::from(edge.to)
+}
+
+/// That bit of the word of the location that the edge goes to.
+fn node_at_end(edge: &Edge, bit: usize) -> usize
+    requires { bit ≤ 263 }
+    ensures value { result ≡ 16 * (16 * edge.now.process + edge.now.to) + bit }
+    ensures bound { result < 1048576 }
+{
+    16 * word_at_end(edge) + bit
 }
 
 /// The variable that an input stores.
 #[tactic(auto, unfolding(crate::specs::Leads::received))]
 pub fn received(edge: &Edge) -> Option<usize>
     ensures value { result ≡ received edge.now }
+    ensures bound { IfSome result (λ n. n < 1048576) }
 {
     match edge.does() {
         Kind::Input => edge.stored().map(|v| node_at_end(edge, v.into())),
@@ -26,17 +38,21 @@ pub fn received(edge: &Edge) -> Option<usize>
     }
 }
 
-/// Whether the edge stores, sets, resets, times out or rearms what has this bit.
+/// What the edge stores, sets, resets, times out or rearms.
 #[tactic(auto, unfolding(crate::specs::Leads::touches))]
-pub fn touches(edge: &Edge, bit: u8) -> bool
-    ensures value { result ≡ touches edge.now bit }
+pub fn touched(edge: &Edge) -> u16
+    ensures value { (b : ℕ) → b < 16 → bit result b ≡ touches edge.now b }
 {
     match edge.does() {
-        Kind::Input => edge.stored() == Some(bit),
-        Kind::Assignment => edge.first == bit,
-        Kind::Set | Kind::Reset | Kind::Timeout | Kind::Rearm => 8 + u16::from(edge.first)
-            == u16::from(bit),
-        _ => false,
+        Kind::Input => match edge.stored() {
+            Some(variable) => single(variable.into()),
+            None => 0,
+        },
+        Kind::Assignment => single(edge.first.into()),
+        Kind::Set | Kind::Reset | Kind::Timeout | Kind::Rearm => single(
+            8 + usize::from(edge.first),
+        ),
+        _ => 0,
     }
 }
 
@@ -44,10 +60,11 @@ pub fn touches(edge: &Edge, bit: u8) -> bool
 #[tactic(auto, unfolding(crate::specs::Leads::fed))]
 pub fn fed<T: Table>(table: &T, edge: &Edge) -> Option<usize>
     ensures value { result ≡ fed (T.lists table.now) edge.now }
+    ensures bound { IfSome result (λ n. n < 1048576) }
 {
     match edge.does() {
         Kind::Assignment => Some(node_at_end(edge, edge.first.into())),
-        Kind::Set => Some(node_at_end(edge, 8 + u16::from(edge.first))),
+        Kind::Set => Some(node_at_end(edge, 8 + usize::from(edge.first))),
         Kind::Output if class_of(table, edge.first) == Class::Internal => {
             Some(SIGNALS + usize::from(edge.first))
         }
