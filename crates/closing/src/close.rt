@@ -1,10 +1,12 @@
 //! Closing a table.
-ghost use Rattle.std.specs.Prelude.{◌≡◌, ℕ, Ok};
+ghost use Rattle.std.specs.Prelude.{◌≡◌, ℕ, IfErr, IfOk, Err, Ok};
+ghost use Rattle.closing.specs.Faults.{test_refusal};
 ghost use Rattle.closing.specs.Layers.{layered};
 ghost use Rattle.marks.specs.Words.{marking};
 ghost use Rattle.rules.specs.Closing.{closed_by};
-ghost use Rattle.rules.specs.Promise.{ClosedBy, Closes, Tests};
+ghost use Rattle.rules.specs.Promise.{ClosedBy, Closes, Measured, Tests};
 
+use crate::fault::TestFault;
 use crate::layer::Layer;
 use crate::plan::Plan;
 use marking::mark;
@@ -41,6 +43,24 @@ fn close_marked<T: Table>(table: T) -> Layer<T>
         Ok(marks) => close_by(table, &marks),
         Err(_) => unclosed(table),
     }
+}
+
+/// Tests and closes at once: the table closed by its least marks, and these; or why it cannot be closed.
+#[tactic(auto, using(crate::proofs::Fitting::deciding))]
+pub fn close_tested<T: Table + Drop>(table: T) -> Result<(Layer<T>, Marks), TestFault>
+    ensures refused { IfErr result (λ f. Measured (T.lists table) (Err (test_refusal f))) }
+    ensures measured { IfOk result (λ c. (n : ℕ) × Measured (T.lists table) (Ok (marking c.1, n))) }
+    ensures meaning { IfOk result (λ c. layered c.0.plan (T.lists c.0.below) ≡ closed_by (T.lists table) (marking c.1)) }
+    ensures below { IfOk result (λ c. c.0.below ≡ table) }
+{
+    let marks = mark(&table)?;
+    let plan = Plan::of(&table, &marks);
+    plan.check_room(&table)?;
+    let layer = Layer {
+        below: table,
+        plan: Some(plan),
+    };
+    Ok((layer, marks))
 }
 
 /// The table as it is.
