@@ -1,1 +1,3 @@
 pub mod Sealing
+pub mod Summaries
+pub mod Texts

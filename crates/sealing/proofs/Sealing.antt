@@ -1,5 +1,5 @@
 -- From what opening, the test, closing and writing promise to what sealing does.
-use Rattle.std.proofs.Common.{◌≡◌, ℕ, true, false, inl, inr, ◌+◌, List, [], ◌∷◌, ◌++◌, map, length, take, drop, IfOk, IfErr, IfSome, is_ok, Some, None, Ok, Err, Option, Result, sym, refl, ap, ◌∙◌, subst}
+use Rattle.std.proofs.Common.{◌≡◌, ℕ, true, false, inl, inr, ◌+◌, List, [], ◌∷◌, map, length, drop, IfOk, IfErr, IfSome, is_ok, Some, None, Ok, Err, Option, Result, sym, refl, ap, ◌∙◌, subst}
 use Rattle.std.proofs.lemmas.List.{take-append-drop}
 use Rattle.std.specs.Option.{option_or}
 use Rattle.std.proofs.lemmas.Bool.{both_ways}
@@ -18,7 +18,7 @@ use Rattle.rules.specs.Steps.{answer}
 use Rattle.table.proofs.Passing.{none-some}
 use Rattle.table.specs.Examination.{examined}
 use Rattle.sealing.specs.Seals.{RefusedAs, SealedAs, UnwrittenAs, names_in}
-use Rattle.sheet.specs.Views.{bytes_of, lists_of, opened_of}
+use Rattle.sheet.specs.Views.{lists_of, opened_of}
 use Rattle.sheet.specs.declared.view.Sheet.{Sheet}
 use Rattle.table.specs.Lists.{Lists}
 use Rattle.writing.proofs.Sole.{area-same}
@@ -70,7 +70,7 @@ erring : {A : Type 0} (o : Option Refusal) (x : A) (f : Refusal) → ◌≡◌ {
 erring (Some g) x f h = ap Some (sym (subst (λ r. IfErr r (λ y. f ≡ y)) h refl))
 erring None x f h = absurd (both_ways false refl (ap is_ok h))
 
-going : {A : Type 0} (o : Option Refusal) (x y : A) → ◌≡◌ {A = Result A Refusal} (Ok y) (answer o x) → o ≡ None
+pub going : {A : Type 0} (o : Option Refusal) (x y : A) → ◌≡◌ {A = Result A Refusal} (Ok y) (answer o x) → o ≡ None
 going None x y h = refl
 going (Some g) x y h = absurd (both_ways true (ap is_ok h) refl)
 

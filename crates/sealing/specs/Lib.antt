@@ -1,1 +1,2 @@
 pub mod Seals
+pub mod Summary
