@@ -1,0 +1,3 @@
+mod Overlays
+mod Sealings
+mod Tracing

@@ -1,0 +1,71 @@
+-- What the calls answer.
+--   CountedBy o bs n    n packs the refusal o, or else is the number of the least marks of the table of the sheet bs
+--   Counted bs n        the same, o being the refusal of the sheet bs
+--   Shown bs n old new  the listing of the sheet bs has n bytes, and new is old with it, if there was room; or else there was no memory
+--   Sealing bs n old new   the sheet bs is closed as a sheet of n bytes, and new is old with it, if there was room; or n packs the refusal;
+--                       or there was no memory
+--   Summed bs n         n is the sum over the edges of the closed table of the sheet bs, or packs the refusal
+--   RunsTo T W ss n old new   the steps ss made from the world W on: answers and end have n bytes, and new is old with them, if there was room
+--   Traced bs ss n old new   the steps ss are made from the start of the table of the sheet bs; or n packs the refusal of the sheet or of the start
+use Rattle.std.specs.Prelude.{◌≡◌, ℕ, ◌⊎◌, List, length, Some, None, Ok, Err, Option, Result}
+use Rattle.bridge.specs.Codes.{failed, packed}
+use Rattle.bridge.specs.Laid.{fitted, spelled}
+use Rattle.bridge.specs.Sums.{checksum}
+use Rattle.bridge.specs.Traces.{traced}
+use Rattle.listing.specs.Listing.{Listed, MarkedOf, refused_by}
+use Rattle.marks.specs.Rules.{Marking}
+use Rattle.marks.specs.Words.{total}
+use Rattle.reading.specs.Opening.{Opened, opened}
+use Rattle.refusal.specs.declared.fault.Refusal.{Refusal}
+use Rattle.rules.specs.Promise.{ClosedBy}
+use Rattle.rules.specs.States.{World, start_refused, started}
+use Rattle.sealing.specs.Seals.{SealedAs, RefusedAs, UnwrittenAs}
+use Rattle.table.specs.Lists.{Lists}
+
+abbrev pub CountedBy : Option Refusal → List ℕ → ℕ → Type 0
+CountedBy (Some r) bs n = n ≡ packed r
+CountedBy None bs n = (T : Lists) × (M : Marking) × (MarkedOf (opened bs) T M × (n ≡ total M))
+
+abbrev pub Counted : List ℕ → ℕ → Type 0
+Counted bs n = CountedBy (refused_by bs) bs n
+
+abbrev pub OutOfMemory : ℕ → List ℕ → List ℕ → Type 0
+OutOfMemory n old new = (n ≡ failed) × (new ≡ old)
+
+abbrev pub Written : List ℕ → ℕ → List ℕ → List ℕ → Type 0
+Written xs n old new = (n ≡ length xs) × (new ≡ fitted xs old)
+
+abbrev pub Refused : Refusal → ℕ → List ℕ → List ℕ → Type 0
+Refused r n old new = (n ≡ packed r) × (new ≡ old)
+
+abbrev pub Shown : List ℕ → ℕ → List ℕ → List ℕ → Type 0
+Shown bs n old new = ((text : List ℕ) × Listed bs text × Written text n old new) ⊎ OutOfMemory n old new
+
+abbrev pub Sealing : List ℕ → ℕ → List ℕ → List ℕ → Type 0
+Sealing bs n old new =
+    ((vs : List ℕ) × SealedAs bs vs × Written vs n old new)
+    ⊎ (((r : Refusal) × (RefusedAs bs r ⊎ UnwrittenAs bs r) × Refused r n old new) ⊎ OutOfMemory n old new)
+
+pub record SummedAs (bs : List ℕ) (n : ℕ) : Type 0 where
+  pub holds : Opened
+  pub opens : opened bs ≡ Ok holds
+  pub meaning : Lists
+  pub closed : ClosedBy holds.lists meaning
+  pub sum : n ≡ checksum meaning.edges
+
+abbrev pub Summed : List ℕ → ℕ → Type 0
+Summed bs n = SummedAs bs n ⊎ ((r : Refusal) × RefusedAs bs r × (n ≡ packed r))
+
+abbrev pub RunsTo : Lists → World → List ℕ → ℕ → List ℕ → List ℕ → Type 0
+RunsTo T W ss n old new = Written (spelled (traced T W ss)) n old new
+
+abbrev pub RanBy : Option Refusal → Lists → List ℕ → ℕ → List ℕ → List ℕ → Type 0
+RanBy (Some r) T ss n old new = Refused r n old new
+RanBy None T ss n old new = RunsTo T (started T 128) ss n old new
+
+abbrev pub TracedBy : Result Opened Refusal → List ℕ → ℕ → List ℕ → List ℕ → Type 0
+TracedBy (Err r) ss n old new = Refused r n old new
+TracedBy (Ok o) ss n old new = RanBy (start_refused o.lists 128) o.lists ss n old new
+
+abbrev pub Traced : List ℕ → List ℕ → ℕ → List ℕ → List ℕ → Type 0
+Traced bs ss n old new = TracedBy (opened bs) ss n old new

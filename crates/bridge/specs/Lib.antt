@@ -1,0 +1,5 @@
+pub mod Answers
+pub mod Codes
+pub mod Laid
+pub mod Sums
+pub mod Traces
