@@ -50,10 +50,11 @@ impl Random {
     }
 
     fn timer(&mut self) -> Timer {
-        match self.below(6) {
+        match self.below(7) {
             0 | 1 => None,
             2..=4 => Some(self.below(4) as u16),
-            _ => Some(self.below(1 << 15) as u16),
+            5 => Some(self.below(1 << 15) as u16),
+            _ => Some(*self.pick(&[i16::MAX as u16 - 1, i16::MAX as u16])),
         }
     }
 }
