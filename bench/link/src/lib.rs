@@ -1,5 +1,6 @@
 //! The proved calls and the plain implementation side by side, answering in the same form.
 
+pub mod booking;
 pub mod heap;
 pub mod packing;
 pub mod plainly;

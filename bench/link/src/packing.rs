@@ -33,6 +33,7 @@ pub fn refusal(refusal: Refusal) -> u64 {
         Place::Table(number) => (2, at(number), None),
         Place::Location { process, location } => (2, PAIR + 256 * process as u64 + location as u64, None),
         Place::Test(number) => (3, at(number), None),
+        Place::Book(number) => (4, at(number), None),
         Place::State(number) => (5, at(number), None),
     };
     let inside = inside.map_or(0, |bit| 1 + bit as u64);
@@ -93,7 +94,7 @@ fn message(message: Message) -> u64 {
     MESSAGE | u64::from(message.signal) << 16 | u64::from(message.value as u16)
 }
 
-fn timer(timer: Timer) -> u64 {
+pub(crate) fn timer(timer: Timer) -> u64 {
     timer.map_or(0, |ticks| ON + u64::from(ticks))
 }
 
@@ -111,15 +112,19 @@ pub fn state(state: &State, memory: &Memory) -> impl Iterator<Item = u64> {
 const PRIME: u64 = (1 << 57) - 13;
 
 pub fn checksum(edges: &[Edge]) -> u64 {
-    edges.iter().fold(0, |sum, edge| mixed(mixed(sum, front(edge)), span(edge.guard) << 24 | span(edge.value)))
+    edges.iter().fold(0, |sum, edge| mixed(mixed(sum, front(edge)), back(edge)))
 }
 
 fn mixed(sum: u64, word: u64) -> u64 {
     31 * (sum + word) % PRIME
 }
 
-fn front(edge: &Edge) -> u64 {
+pub(crate) fn front(edge: &Edge) -> u64 {
     u64::from_be_bytes([0, edge.process, edge.from, edge.to, edge.kind, edge.first, edge.second, edge.mode])
+}
+
+pub(crate) fn back(edge: &Edge) -> u64 {
+    span(edge.guard) << 24 | span(edge.value)
 }
 
 fn span(span: Span) -> u64 {

@@ -1,9 +1,10 @@
 //! The plain implementation, asked in the same form.
 
+use crate::booking;
 use crate::packing::{self, STATE_WORDS, STEP, WORD};
 use crate::side::Side;
 use plain::step::Memory;
-use plain::{Machine, Message, Plan, Refusal, Sheet, State, examine, mark, open, write};
+use plain::{Book, Machine, Message, Plan, Refusal, Sheet, State, examine, mark, open, write};
 
 pub struct Plain;
 
@@ -39,6 +40,10 @@ impl Side for Plain {
     fn trace(&self, sheet: &[u8], steps: &[u8], out: &mut [u8]) -> u64 {
         number(traced(sheet, steps, out))
     }
+
+    fn book(&self, calls: &[u8], out: &mut [u8]) -> u64 {
+        fit(&made(calls), out)
+    }
 }
 
 fn number(answer: Result<u64, Refusal>) -> u64 {
@@ -66,6 +71,16 @@ fn closed(bytes: &[u8]) -> Result<Vec<u8>, Refusal> {
 fn sum_of_closed(bytes: &[u8]) -> Result<u64, Refusal> {
     let Sheet { table, .. } = open(bytes)?;
     Ok(packing::checksum(&Plan::new(&table)?.close().edges))
+}
+
+/// What a list of calls answers, and the book and its closing in the end.
+fn made(bytes: &[u8]) -> Vec<u8> {
+    let mut book = Book::new(booking::room(bytes));
+    let mut words: Vec<u64> =
+        booking::calls(bytes).map(|call| book.make(&call).map_or_else(packing::refusal, |number| number as u64)).collect();
+    booking::push_table(book.table(), &mut words);
+    booking::push_table(&book.close(), &mut words);
+    words.iter().flat_map(|word| word.to_be_bytes()).collect()
 }
 
 fn traced(bytes: &[u8], steps: &[u8], out: &mut [u8]) -> Result<u64, Refusal> {

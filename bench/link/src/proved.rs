@@ -9,6 +9,7 @@ unsafe extern "C" {
     fn funavolem_marks(sheet: *const u8, length: usize, out: *mut u8, room: usize) -> u64;
     fn funavolem_close(sheet: *const u8, length: usize, out: *mut u8, room: usize) -> u64;
     fn funavolem_closed_edges(sheet: *const u8, length: usize) -> u64;
+    fn funavolem_book(calls: *const u8, length: usize, out: *mut u8, room: usize) -> u64;
     fn funavolem_trace(sheet: *const u8, length: usize, steps: *const u8, count: usize, out: *mut u8, room: usize) -> u64;
 }
 
@@ -43,5 +44,9 @@ impl Side for Proved {
     fn trace(&self, sheet: &[u8], steps: &[u8], out: &mut [u8]) -> u64 {
         let (length, count, room) = (sheet.len(), steps.len(), out.len());
         unsafe { funavolem_trace(sheet.as_ptr(), length, steps.as_ptr(), count, out.as_mut_ptr(), room) }
+    }
+
+    fn book(&self, calls: &[u8], out: &mut [u8]) -> u64 {
+        unsafe { funavolem_book(calls.as_ptr(), calls.len(), out.as_mut_ptr(), out.len()) }
     }
 }

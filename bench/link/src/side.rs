@@ -21,4 +21,7 @@ pub trait Side {
 
     /// The answers to steps from the start on, and the end; or the refusal.
     fn trace(&self, sheet: &[u8], steps: &[u8], out: &mut [u8]) -> u64;
+
+    /// The answers to calls on a new book, the book, and what closing it means.
+    fn book(&self, calls: &[u8], out: &mut [u8]) -> u64;
 }

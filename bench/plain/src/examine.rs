@@ -25,7 +25,7 @@ pub fn limits(table: &Table) -> Result<(), Refusal> {
     bad.map_or(Ok(()), |number| Err(Fault::Limit.at(Place::Table(number))))
 }
 
-fn process_is_good(process: &Process) -> bool {
+pub fn process_is_good(process: &Process) -> bool {
     (1..=MAX_LOCATIONS).contains(&process.locations.into())
         && process.first < process.locations
         && process.variables.len() <= MAX_VARIABLES
@@ -33,7 +33,7 @@ fn process_is_good(process: &Process) -> bool {
         && process.timers.iter().flatten().all(|&n| n <= i16::MAX as u16)
 }
 
-fn signal_is_good(signal: &Signal, processes: usize) -> bool {
+pub fn signal_is_good(signal: &Signal, processes: usize) -> bool {
     match signal.class() {
         Some(Class::Internal | Class::Inbound) => usize::from(signal.destination) < processes,
         Some(Class::Outbound | Class::Absent) => signal.destination == 0,

@@ -4,6 +4,8 @@
 //! they take.
 
 pub mod bits;
+pub mod book;
+pub mod calls;
 pub mod close;
 pub mod examine;
 pub mod expression;
@@ -17,6 +19,7 @@ pub mod step;
 pub mod table;
 pub mod trace;
 
+pub use book::{Book, Call, Room};
 pub use close::{Plan, close, test};
 pub use examine::examine;
 pub use mark::{Marks, mark};

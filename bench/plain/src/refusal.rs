@@ -20,6 +20,9 @@ pub enum Fault {
     NoWayOn = 12,
     NinthTimer = 13,
     TooManyEdges = 14,
+    Full = 15,
+    NoEdge = 16,
+    Unmarked = 17,
     OtherState = 18,
     Unknown = 19,
     NotReady = 20,
@@ -44,6 +47,7 @@ pub enum Place {
         bit: usize,
     },
     Test(usize),
+    Book(usize),
     State(usize),
 }
 
@@ -72,6 +76,7 @@ impl fmt::Display for Place {
             Place::Edge(edge) => write!(f, "edge {edge}"),
             Place::EdgeAt { edge, bit } => write!(f, "edge {edge} sheet {bit}"),
             Place::Test(number) => write!(f, "test {number}"),
+            Place::Book(number) => write!(f, "book {number}"),
             Place::State(number) => write!(f, "state {number}"),
         }
     }

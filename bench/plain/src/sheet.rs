@@ -208,7 +208,7 @@ impl<'a> Names<'a> {
 
 /// The sheet of a table and its names.
 pub fn write(table: &Table, names: Names) -> Result<Vec<u8>, Refusal> {
-    if table.processes.is_empty() {
+    if !(1..=MAX_PROCESSES).contains(&table.processes.len()) {
         return Err(Fault::Limit.at_bit(8));
     }
     examine::limits(table)?;

@@ -73,6 +73,12 @@ many s (e ∷ es) t h k =
     let rest = many h.0 es t h.2 (one.kept k) in
     (rest.0, rest.1 ∙ ap (λ b. standing b es) one.stands, rest.2 ∙ ap (λ T. built T es) one.lists)
 
+-- more calls after those
+pub follows-append : (s : Pages) (xs : List Entry) (u : Pages) (ys : List Entry) (t : Pages) → Follows s xs u → Follows u ys t → Follows s (xs ++ ys) t
+unfolding Follows
+follows-append s [] u ys t h k = subst (λ v. Follows v ys t) h k
+follows-append s (x ∷ xs) u ys t h k = (h.0, h.1, follows-append h.0 xs u ys t h.2 k)
+
 -- an accepted marking is no edit
 
 marks-only : (R : Room) (c : Call) (r : Result ℕ Refusal) → is_mark (record { room = R; call = c; answer = r }) ≡ true → is_edit (record { room = R; call = c; answer = r }) ≡ false

@@ -1,3 +1,4 @@
 pub mod Dealing
+pub mod Example
 pub mod Histories
 pub mod Memories

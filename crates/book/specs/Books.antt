@@ -7,6 +7,8 @@
 --   lacking b es ts    15 where a memory is shorter than what the book has in it, at the lower place
 --   shut f o T         what closing T means: by the marks o that are kept, if any, and as it is where memory lacks
 --   Dealt ..           a call that is lent enough does as the rules say, and another is refused with 15
+--   Whole b es ts      nothing lacks: b counts just the edges and terms of its lists, and is the same book in any memories
+--                      that begin as these do, however long they are
 use Rattle.std.specs.Prelude.{◌≡◌, ℕ, min, cond, List, map, length, take, Some, None, Err, Option, Result, nat_lt}
 use Rattle.std.specs.Option.{option_map}
 use Rattle.book.specs.Calls.{Pages, Room, Call, Does, book_at}
@@ -50,6 +52,12 @@ lacking b es ts = option_map (book_at 15) (lower (lack b.edges es) (lack b.terms
 pub record Dealt (short : Option Refusal) (R : Room) (c : Call) (s : Pages) (r : Result ℕ Refusal) (t : Pages) : Type 0 where
   pub lent : short ≡ None → Does R c s r t
   pub unlent : (f : Refusal) → short ≡ Some f → r ≡ Err f
+
+pub record Whole (b : Book) (es : List Edge) (ts : List Term) : Type 0 where
+  pub edges : b.edges ≡ length (lists_of b es ts).edges
+  pub terms : b.terms ≡ length (lists_of b es ts).terms
+  pub lent : lacking b es ts ≡ None
+  pub elsewhere : (us : List Edge) (vs : List Term) → take b.edges us ≡ take b.edges es → take b.terms vs ≡ take b.terms ts → (lacking b us vs ≡ None) × (pages b us vs ≡ pages b es ts)
 
 abbrev pub shut : Option Refusal → Option Marking → Lists → Lists
 shut (Some f) o T = T

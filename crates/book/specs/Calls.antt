@@ -4,6 +4,8 @@
 --   Room               how many edges and terms the memories have room for that a call is lent
 --   Edit, Call         the calls
 --   book_at n k        refusal n of layer book at place k
+--   edge_at n k        refusal n of layer edge at place k
+--   table_at k         refusal 3 at place k
 --   numbered_edge k    the refusal of an edge's fault, at the number k
 --   is_over most room n   n items are more than a list may have, or than its memory has room for
 --   bad_terms ts       not 1 to 16 terms, or an operation above 15
@@ -63,11 +65,14 @@ book_at n k = refusal n Layer.Book (Place.At k)
 abbrev pub table_at : ℕ → Refusal
 table_at k = refusal 3 Layer.Table (Place.At k)
 
+abbrev pub edge_at : ℕ → ℕ → Refusal
+edge_at n k = refusal n Layer.Edge (Place.At k)
+
 abbrev pub when : Bool → Refusal → Option Refusal
 when b r = cond b (Some r) None
 
 abbrev pub numbered_edge : ℕ → Lists → Edge → Option Refusal
-numbered_edge k T e = option_map (λ n. refusal n Layer.Edge (Place.At k)) (edge_fault T e)
+numbered_edge k T e = option_map (λ n. edge_at n k) (edge_fault T e)
 
 abbrev pub is_over : ℕ → ℕ → ℕ → Bool
 is_over most room n = nat_lt (min most room) n

@@ -1,4 +1,5 @@
 pub mod Books
 pub mod Calls
+pub mod Example
 pub mod Faults
 pub mod Histories

@@ -1,6 +1,6 @@
 //! The edits of a book. One that is accepted drops the kept marks; one that is refused changes nothing.
-ghost use Rattle.std.specs.Prelude.{◌≡◌, ◌≤◌, OnOk, OnErr, length, if◌then◌else◌, nat_lt, Some, None};
-ghost use Rattle.book.specs.Books.{lists_of, pages, room, lack, lacking, Dealt};
+ghost use Rattle.std.specs.Prelude.{◌≡◌, ◌+◌, ◌++◌, ◌≤◌, OnOk, OnErr, length, take, drop, if◌then◌else◌, nat_lt, slice_set, Some, None};
+ghost use Rattle.book.specs.Books.{lists_of, pages, room, lack, lacking, Dealt, Whole};
 ghost use Rattle.book.specs.Calls.{edit, declare_process, declare_signal, enter_expression, enter_edge, change_edge, strike_edge, bad_terms, numbered_edge, empty};
 ghost use Rattle.book.specs.Faults.{book_refusal, said, done};
 ghost use Rattle.std.specs.List.{list_any};
@@ -20,7 +20,8 @@ impl Book {
     /// A book without anything in it.
     #[tactic(auto, unfolding(crate::specs::Books::lists_of))]
     pub fn new() -> Book
-        ensures { (edges terms : _) → pages result edges terms ≡ empty }
+        ensures value { (edges terms : _) → pages result edges terms ≡ empty }
+        ensures whole { (edges terms : _) → Whole result edges terms }
     {
         Book {
             processes: ArrayVec::new(),
@@ -54,6 +55,7 @@ impl Book {
         process: &Process,
     ) -> Result<usize, BookFault>
         ensures does { Dealt (lacking self.old edges.now terms.now) (room edges.now terms.now) (edit (declare_process (meant process.now))) (pages self.old edges.now terms.now) (said result) (pages self.new edges.now terms.now) }
+        ensures whole { OnOk result (Whole self.new edges.now terms.now) }
         ensures refused { OnErr result (self.new ≡ self.old) }
     {
         self.check_memory(edges, terms)?;
@@ -77,6 +79,7 @@ impl Book {
         signal: Signal,
     ) -> Result<usize, BookFault>
         ensures does { Dealt (lacking self.old edges.now terms.now) (room edges.now terms.now) (edit (declare_signal signal)) (pages self.old edges.now terms.now) (said result) (pages self.new edges.now terms.now) }
+        ensures whole { OnOk result (Whole self.new edges.now terms.now) }
         ensures refused { OnErr result (self.new ≡ self.old) }
     {
         self.check_memory(edges, terms)?;
@@ -100,6 +103,8 @@ impl Book {
         expression: &[Term],
     ) -> Result<usize, BookFault>
         ensures does { Dealt (lacking self.old edges.now terms.old) (room edges.now terms.old) (edit (enter_expression expression.now)) (pages self.old edges.now terms.old) (said result) (pages self.new edges.now terms.new) }
+        ensures whole { OnOk result (Whole self.new edges.now terms.new) }
+        ensures after { OnOk result (terms.new ≡ take self.old.terms terms.old ++ expression.now ++ drop (self.old.terms + length expression.now) terms.old) }
         ensures refused { OnErr result (self.new ≡ self.old) }
         ensures untouched { OnErr result (terms.new ≡ terms.old) }
         ensures size { length terms.new ≡ length terms.old }
@@ -127,6 +132,8 @@ impl Book {
         edge: Edge,
     ) -> Result<usize, BookFault>
         ensures does { Dealt (lacking self.old edges.old terms.now) (room edges.old terms.now) (edit (enter_edge edge)) (pages self.old edges.old terms.now) (said result) (pages self.new edges.new terms.now) }
+        ensures whole { OnOk result (Whole self.new edges.new terms.now) }
+        ensures after { OnOk result (edges.new ≡ slice_set edges.old self.old.edges edge) }
         ensures refused { OnErr result (self.new ≡ self.old) }
         ensures untouched { OnErr result (edges.new ≡ edges.old) }
         ensures size { length edges.new ≡ length edges.old }
@@ -152,6 +159,8 @@ impl Book {
         edge: Edge,
     ) -> Result<(), BookFault>
         ensures does { Dealt (lacking self.old edges.old terms.now) (room edges.old terms.now) (edit (change_edge k edge)) (pages self.old edges.old terms.now) (done result) (pages self.new edges.new terms.now) }
+        ensures whole { OnOk result (Whole self.new edges.new terms.now) }
+        ensures after { OnOk result (edges.new ≡ slice_set edges.old k edge) }
         ensures refused { OnErr result (self.new ≡ self.old) }
         ensures untouched { OnErr result (edges.new ≡ edges.old) }
         ensures size { length edges.new ≡ length edges.old }
@@ -174,6 +183,8 @@ impl Book {
         k: usize,
     ) -> Result<(), BookFault>
         ensures does { Dealt (lacking self.old edges.old terms.now) (room edges.old terms.now) (edit (strike_edge k)) (pages self.old edges.old terms.now) (done result) (pages self.new edges.new terms.now) }
+        ensures whole { OnOk result (Whole self.new edges.new terms.now) }
+        ensures beyond { OnOk result (drop self.old.edges edges.new ≡ drop self.old.edges edges.old) }
         ensures refused { OnErr result (self.new ≡ self.old) }
         ensures untouched { OnErr result (edges.new ≡ edges.old) }
         ensures size { length edges.new ≡ length edges.old }

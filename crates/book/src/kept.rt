@@ -1,7 +1,7 @@
 //! Marking a book, and closing it by its marks.
-ghost use Rattle.std.specs.Prelude.{◌≡◌, ◌↔◌, List, None, IsOk, OnErr};
-ghost use Rattle.book.specs.Books.{lists_of, pages, room, lacking, shut, Dealt};
-ghost use Rattle.book.specs.Calls.{mark, ready, empty, Does};
+ghost use Rattle.std.specs.Prelude.{◌≡◌, ◌↔◌, List, None, Ok, IsOk, OnOk, OnErr};
+ghost use Rattle.book.specs.Books.{lists_of, pages, room, lacking, shut, Dealt, Whole};
+ghost use Rattle.book.specs.Calls.{mark, ready, close, empty, Does};
 ghost use Rattle.book.specs.Faults.{said, done};
 ghost use Rattle.book.specs.Histories.{Entry, Follows, MarkedSince, Histories, ClosesAs};
 ghost use Rattle.closing.specs.Layers.{layered};
@@ -21,6 +21,7 @@ impl Book {
     #[tactic(auto, using(crate::proofs::Histories::marking_call))]
     pub fn mark(&mut self, edges: &[Edge], terms: &[Term]) -> Result<usize, BookFault>
         ensures does { Dealt (lacking self.old edges.now terms.now) (room edges.now terms.now) mark (pages self.old edges.now terms.now) (said result) (pages self.new edges.now terms.now) }
+        ensures whole { OnOk result (Whole self.new edges.now terms.now) }
         ensures refused { OnErr result (self.new ≡ self.old) }
         ensures histories { Histories (pages self.new edges.now terms.now) }
     {
@@ -34,6 +35,7 @@ impl Book {
     #[tactic(auto, using(crate::proofs::Histories::ready_call))]
     pub fn ready(&self) -> Result<(), BookFault>
         ensures does { (edges terms : _) → Does (room edges terms) ready (pages self.now edges terms) (done result) (pages self.now edges terms) }
+        ensures histories { (edges terms : _) → Histories (pages self.now edges terms) }
         ensures law { (edges terms : _) (es : List Entry) → Follows empty es (pages self.now edges terms) → IsOk result ↔ MarkedSince es }
     {
         if self.marks.is_none() {
@@ -44,8 +46,10 @@ impl Book {
 
     /// The book closed by the marks that it keeps, or as it is where it keeps none.
     pub fn close<'a>(&'a self, edges: &'a [Edge], terms: &'a [Term]) -> Layer<View<'a>>
+        ensures does { Does (room edges.now terms.now) close (pages self.now edges.now terms.now) (Ok 0) (pages self.now edges.now terms.now) }
         ensures below { lists_of result.below.book.now result.below.edges.now result.below.terms.now ≡ lists_of self.now edges.now terms.now }
         ensures meaning { layered result.plan (lists_of result.below.book.now result.below.edges.now result.below.terms.now) ≡ shut (lacking self.now edges.now terms.now) (option_map marking self.now.marks) (lists_of self.now edges.now terms.now) }
+        ensures histories { Histories (pages self.now edges.now terms.now) }
         ensures law { lacking self.now edges.now terms.now ≡ None → (es : List Entry) → Follows empty es (pages self.now edges.now terms.now) → ClosesAs es (lists_of self.now edges.now terms.now) (layered result.plan (lists_of result.below.book.now result.below.edges.now result.below.terms.now)) }
     {
         self.shut(edges, terms)

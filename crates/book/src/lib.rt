@@ -5,4 +5,5 @@ pub mod book;
 mod edits;
 pub mod fault;
 mod kept;
+pub mod laws;
 pub mod view;

@@ -1,3 +1,6 @@
+mod Booking
+mod Limits
 mod Overlays
 mod Sealings
+mod Tabling
 mod Tracing

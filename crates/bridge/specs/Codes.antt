@@ -7,6 +7,7 @@
 --   failed           what is answered when there is no memory: all ones. No refusal is packed so
 --   judgement o      a refusal, or 0 where there is none
 --   answer_code r    what a step answers: 0, or the message that leaves, or the refusal
+--   number_code r    what a call on a book answers: its number, or the refusal
 use Rattle.std.specs.Prelude.{ℕ, ◌+◌, ◌*◌, min, Some, None, Ok, Err, Option, Result}
 use Rattle.std.specs.Int.{w16, cast_unsigned}
 use Rattle.refusal.specs.declared.fault.Layer.{Layer}
@@ -50,3 +51,7 @@ message_code (Some m) = 16777216 + 65536 * m.signal + cast_unsigned w16 m.value
 abbrev pub answer_code : Result (Option Message) Refusal → ℕ
 answer_code (Ok m) = message_code m
 answer_code (Err r) = packed r
+
+abbrev pub number_code : Result ℕ Refusal → ℕ
+number_code (Ok n) = n
+number_code (Err r) = packed r

@@ -1,6 +1,4 @@
 -- A run of a table from its start, as numbers of 64 bits.
---   byte_at bs i        byte i, 0 past the end
---   pair_at bs i        the number of two bytes from byte i on
 --   step_of k a b       the step of kind k with the numbers a and b: offer, move, discard, expire; any other kind is a tick
 --   step_at ss i        step i of the steps in ss, five bytes each: kind, a, b
 --   ends T W ss n       the world W after the first n steps; a refused one changes nothing
@@ -11,10 +9,11 @@
 --   state_words W n     the first n words of a world, process by process
 --   unstarted o room    the refusal of a sheet that opens as o, or of its start with so many places in the queue memory
 --   traced T W ss       the answers to all steps from the world W on, and the 264 words of the end
-use Rattle.std.specs.Prelude.{ℕ, zero, suc, ◌+◌, ◌*◌, ◌/◌, ◌%◌, ◌-◌, cond, List, [], ◌∷◌, ◌++◌, ℤ, length, Some, None, Ok, Err, Option, Result, ◌==◌, nat_le, slice_index_or}
-use Rattle.std.specs.Int.{w16, cast_signed, cast_unsigned, from_be_bytes}
+use Rattle.std.specs.Prelude.{ℕ, zero, suc, ◌+◌, ◌*◌, ◌/◌, ◌%◌, ◌-◌, cond, List, [], ◌∷◌, ◌++◌, ℤ, length, Some, None, Ok, Err, Option, Result, ◌==◌, nat_le}
+use Rattle.std.specs.Int.{w16, cast_signed, cast_unsigned}
 use Rattle.std.specs.List.{slice_get}
 use Rattle.std.specs.Option.{option_and_then, option_map, unwrap_or}
+use Rattle.bridge.specs.Bytes.{byte_at, pair_at}
 use Rattle.bridge.specs.Codes.{answer_code, message_code}
 use Rattle.reading.specs.Opening.{Opened}
 use Rattle.refusal.specs.declared.fault.Refusal.{Refusal}
@@ -23,14 +22,8 @@ use Rattle.rules.specs.Steps.{next, stepped}
 use Rattle.rules.specs.declared.step.Step.{Step}
 use Rattle.rules.specs.declared.step.Step.TheVariants.{Offer, Move, Discard, Expire, Tick}
 use Rattle.table.specs.Lists.{Lists}
+use Rattle.table.specs.Records.{timer_number, timer_ticks}
 use Rattle.table.specs.declared.record.Timer.{Timer}
-use Rattle.table.specs.declared.record.Timer.TheVariants.{Off, On}
-
-abbrev pub byte_at : List ℕ → ℕ → ℕ
-byte_at bs i = slice_index_or bs i 0
-
-abbrev pub pair_at : List ℕ → ℕ → ℕ
-pair_at bs i = from_be_bytes w16 (byte_at bs i ∷ byte_at bs (i + 1) ∷ [])
 
 abbrev pub step_of : ℕ → ℕ → ℕ → Step
 step_of k a b =
@@ -56,8 +49,7 @@ variable_word (Some x) = cast_unsigned w16 x
 
 abbrev pub timer_word : Option Timer → ℕ
 timer_word None = 0
-timer_word (Some Off) = 0
-timer_word (Some (On n)) = 65536 + n
+timer_word (Some t) = 65536 * timer_number t + timer_ticks t
 
 abbrev pub word_of : World → ℕ → ℕ → ℕ
 word_of W p k =

@@ -6,28 +6,24 @@ ghost use Rattle.bridge.specs.Sums.{back_of, checksum, front_of, joined, mixed, 
 ghost use Rattle.refusal.specs.declared.fault.Refusal.{Refusal};
 ghost use Rattle.sealing.specs.Seals.{RefusedAs};
 
-use crate::codes::{FAILED, packed};
-use crate::laying::fit;
-use sealing::fault::SealError;
-use sealing::seal::{judge, seal};
-use std::alloc::Global;
+use crate::codes::packed;
+use sealing::seal::{judge, seal_into};
 use table::questions::Table;
 use table::record::{Edge, Span};
 
 /// Writes the closed sheet; answers how long it is, or the refusal.
-pub(crate) fn close(heap: Global, sheet: &[u8], out: &mut [u8]) -> u64
+pub(crate) fn close(sheet: &[u8], out: &mut [u8]) -> u64
     ensures sealing { Sealing sheet.now result out.old out.new }
     ensures told { (r : Refusal) → RefusedAs sheet.now r → result ≡ packed r }
 {
-    match seal(heap, sheet) {
-        Ok(sealed) => fit(out, &sealed.sheet) as u64,
-        Err(SealError::Refused(refusal)) => packed(refusal),
-        Err(SealError::OutOfMemory) => FAILED,
+    match seal_into(sheet, out) {
+        Ok(size) => size as u64,
+        Err(refusal) => packed(refusal),
     }
 }
 
 /// The fields of one byte.
-fn front_of(edge: &Edge) -> u64
+pub(crate) fn front_of(edge: &Edge) -> u64
     ensures value { result ≡ front_of edge.now }
     ensures bound { result < 72057594037927936 }
 {
@@ -44,7 +40,7 @@ fn span_of(span: Span) -> u64
 }
 
 /// The guard and the value.
-fn back_of(edge: &Edge) -> u64
+pub(crate) fn back_of(edge: &Edge) -> u64
     ensures value { result ≡ back_of edge.now }
     ensures bound { result < 72057594037927936 }
 {

@@ -1,7 +1,9 @@
 //! Refusals and answers as numbers of 64 bits.
 ghost use Rattle.std.specs.Prelude.{◌≡◌, ◌≤◌, ◌<◌};
-ghost use Rattle.bridge.specs.Codes.{failed, inside_code, layer_code, message_code, packed, place_code};
+ghost use Rattle.book.specs.Faults.{said};
+ghost use Rattle.bridge.specs.Codes.{failed, inside_code, layer_code, message_code, number_code, packed, place_code};
 
+use book::fault::BookFault;
 use refusal::fault::{Layer, Place, Refusal};
 use rules::step::Message;
 
@@ -75,4 +77,14 @@ pub(crate) fn message_code(message: Option<Message>) -> u64
     message.map_or(0, |message| {
         SENT + SIGNAL * u64::from(message.signal) + u64::from(message.value.cast_unsigned())
     })
+}
+
+/// What a call on a book answers.
+pub(crate) fn number_code(answer: Result<usize, BookFault>) -> u64
+    ensures { result ≡ number_code (said answer) }
+{
+    match answer {
+        Ok(number) => number as u64,
+        Err(fault) => packed(fault.into()),
+    }
 }

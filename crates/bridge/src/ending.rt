@@ -25,7 +25,7 @@ fn location_word(location: Option<u8>) -> u64
     location.unwrap_or(0).into()
 }
 
-fn variable_word(value: Option<i16>) -> u64
+pub(crate) fn variable_word(value: Option<i16>) -> u64
     ensures { result ≡ variable_word value }
 {
     match value {
@@ -34,7 +34,7 @@ fn variable_word(value: Option<i16>) -> u64
     }
 }
 
-fn timer_word(timer: Option<Timer>) -> u64
+pub(crate) fn timer_word(timer: Option<Timer>) -> u64
     ensures { result ≡ timer_word timer }
 {
     match timer {

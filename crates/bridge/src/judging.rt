@@ -10,6 +10,7 @@ ghost use Rattle.sheet.specs.Views.{lists_of};
 
 use crate::codes::packed;
 use examination::examine;
+use loading::kept::Kept;
 use marking::mark;
 use marks::marks::Marks;
 use refusal::fault::Refusal;
@@ -19,7 +20,7 @@ fn judge(bytes: &[u8]) -> Result<(), Refusal>
     ensures { result_err result ≡ refused_by bytes.now }
 {
     let sheet = open_sheet(bytes)?;
-    examine(&sheet)?;
+    examine(&Kept::of(&sheet))?;
     Ok(())
 }
 

@@ -4,7 +4,7 @@ ghost use Rattle.std.specs.Result.{result_err};
 ghost use Rattle.bridge.specs.Answers.{RunsTo, Traced};
 ghost use Rattle.bridge.specs.Codes.{answer_code};
 ghost use Rattle.bridge.specs.Laid.{laid, spelled};
-ghost use Rattle.bridge.specs.Traces.{answers, byte_at, ends, pair_at, step_at, unstarted};
+ghost use Rattle.bridge.specs.Traces.{answers, ends, step_at, unstarted};
 ghost use Rattle.loading.specs.Loading.{lists_of as loaded_lists};
 ghost use Rattle.reading.specs.Opening.{opened};
 ghost use Rattle.rules.specs.States.{started};
@@ -13,6 +13,7 @@ ghost use Rattle.sheet.specs.declared.view.Sheet.{Sheet};
 ghost use Rattle.stepping.specs.Faults.{stepping};
 ghost use Rattle.stepping.specs.Worlds.{world_of};
 
+use crate::bytes::{byte_at, pair_at};
 use crate::codes::{message_code, packed};
 use crate::ending::{STATE_WORDS, put_state};
 use crate::laying::put;
@@ -28,19 +29,6 @@ use stepping::step::step_on;
 
 /// Bytes of a step.
 const STEP: usize = 5;
-
-fn byte_at(bytes: &[u8], i: usize) -> u8
-    ensures { result ≡ byte_at bytes.now i }
-{
-    bytes.get(i).copied().unwrap_or(0)
-}
-
-fn pair_at(bytes: &[u8], i: usize) -> u16
-    requires { i < 9223372036854775808 }
-    ensures { result ≡ pair_at bytes.now i }
-{
-    u16::from_be_bytes([byte_at(bytes, i), byte_at(bytes, i + 1)])
-}
 
 #[tactic(auto, unfolding(crate::specs::Traces::step_at))]
 fn step_at(steps: &[u8], i: usize) -> Step

@@ -1,11 +1,16 @@
-//! Lists the marks of many small sheets, good and damaged, and of the largest, and says what closing does to two of them; what it
-//! writes is compared with what is expected.
+//! Lists the marks of many small sheets, good and damaged, and of the largest, and says what closing does to two of them and to the
+//! largest that closes; what it writes is compared with what is expected. Of piles of closing layers it says how much they ask.
 //! A line of the file `cases.txt` is a name, a colon, and the bytes of a sheet in hexadecimal.
 #![tactic(auto)]
 
+mod piles;
+
 use listing::list;
+use piles::tell_piles;
+use refusal::fault::Refusal;
 use sealing::fault::SealError;
 use sealing::seal::seal;
+use sheet::opening::open_sheet;
 use std::alloc::{AllocError, Global};
 use std::fs;
 
@@ -52,6 +57,17 @@ fn tell_closed(rt: &HostRuntime, sheet: &[u8]) -> anyhow::Result<()> {
     Ok(())
 }
 
+/// What the questions to closing layers on the sheet ask it.
+fn tell_piled(rt: &HostRuntime, sheet: &[u8]) -> anyhow::Result<()> {
+    match open_sheet(sheet) {
+        Ok(table) => tell_piles(rt, &table),
+        Err(fault) => {
+            println!(rt; "{}", Refusal::from(fault))?;
+            Ok(())
+        }
+    }
+}
+
 fn run(rt: &HostRuntime) -> anyhow::Result<()> {
     let text = fs::read_to_string(rt, "cases.txt")?;
     for line in text.as_str().lines() {
@@ -62,8 +78,12 @@ fn run(rt: &HostRuntime) -> anyhow::Result<()> {
     }
     let largest = fs::read(rt, "largest.sheet")?;
     tell(rt, "the largest sheet", &largest)?;
-    tell_closed(rt, &fs::read(rt, "gate.sheet")?)?;
-    tell_closed(rt, &largest)
+    let gate = fs::read(rt, "gate.sheet")?;
+    tell_closed(rt, &gate)?;
+    tell_closed(rt, &largest)?;
+    tell_piled(rt, &gate)?;
+    let closing = fs::read(rt, "closing.sheet")?;
+    tell_closed(rt, &closing)
 }
 
 fn main(rt: HostRuntime) -> anyhow::Result<()> {

@@ -23,9 +23,9 @@ use Rattle.refusal.specs.declared.fault.TableFault.{TableFault}
 use Rattle.rules.proofs.Examined.{Passed, passed, process-there}
 use Rattle.rules.proofs.Fates.{there-is}
 use Rattle.rules.proofs.Lists.{In, in-counting, first_from-all}
-use Rattle.rules.proofs.Promised.{tests, closes}
+use Rattle.rules.proofs.Promised.{tests, closes, closed-measured}
 use Rattle.rules.specs.Closing.{chaotic, with_chaos, closed_process, closed_signal, fate, freed, freed_as, changed, closed_edge, timer_loops, chaos_loops, added_at, added_to, added, closed, closed_by, closed_count, ninth, test_at, timers_refused, count_refused, test_refused}
-use Rattle.rules.specs.Promise.{Marked, Measured, Tests, Closes}
+use Rattle.rules.specs.Promise.{Marked, Measured, Tests, Closes, ClosedBy}
 use Rattle.rules.specs.States.{numbered}
 use Rattle.rules.specs.Steps.{answer}
 use Rattle.survey.specs.Surveys.{spot_at, chaotic_at}
@@ -259,6 +259,17 @@ measured-planned T M q o e least plan h = record {
   least = λ _. least;
   says = h ∙ ap (λ r. answer r (M, count_in q T)) (sym (test-same T M q e plan)) ∙ ap (λ n. answer (test_refused T M) (M, n)) (count_same T M q e plan);
 }
+
+-- where there is room by the plan, the table with the plan is the closed one
+pub closed-planned : (T : Lists) (M : Marking) (q : Plan) (r : ℕ) → examined T ≡ None → Least T M → Planned T M q → Ok r ≡ answer (room_refused q T) (count_in q T) → ClosedBy T (layered (Some q) T)
+closed-planned T M q r e least plan h =
+    let n = count_in q T in
+    let room = passed (room_refused q T) n h in
+    closed-measured T (layered (Some q) T) M n (measured-planned T M q (Ok (M, n)) e least plan (sym (ap (λ f. answer f (M, n)) room))) (meant_closed T M q e plan room)
+  where
+    passed : (f : Option Refusal) (n : ℕ) → Ok r ≡ answer f n → f ≡ None
+    passed None n h = refl
+    passed (Some x) n h = cc
 
 -- the test is the second half of measuring
 pub tests_measured : (T : Lists) (r : Result (Marks × ℕ) TestFault) (o : Result ℕ TestFault) → Measured T (measuring r) → testing o ≡ result_map_both (λ x. x.1) test_refusal r → Tests T (testing o)

@@ -51,6 +51,7 @@ pub fn close_tested<T: Table + Drop>(table: T) -> Result<(Layer<T>, Marks), Test
     ensures refused { IfErr result (λ f. Measured (T.lists table) (Err (test_refusal f))) }
     ensures measured { IfOk result (λ c. (n : ℕ) × Measured (T.lists table) (Ok (marking c.1, n))) }
     ensures meaning { IfOk result (λ c. layered c.0.plan (T.lists c.0.below) ≡ closed_by (T.lists table) (marking c.1)) }
+    ensures closes { IfOk result (λ c. ClosedBy (T.lists table) (layered c.0.plan (T.lists c.0.below))) }
     ensures below { IfOk result (λ c. c.0.below ≡ table) }
 {
     let marks = mark(&table)?;

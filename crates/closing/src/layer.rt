@@ -58,11 +58,13 @@ impl Plan {
 }
 
 impl<T: Table> Layer<T> {
-    /// The plan, if the layer closes, which it does only for tables of at most 2,048 edges.
-    fn at_work(&self) -> Option<&Plan>
+    /// The plan, if the layer closes, which it does only for tables of at most 2,048 edges. The table below has so many: each
+    /// question asks it for them once, since a layer may lie below that asks on.
+    fn at_work(&self, edges: usize) -> Option<&Plan>
+        requires { edges ≡ length (T.lists self.now.below).edges }
         ensures { option_copied result ≡ at_work self.now.plan (T.lists self.now.below) }
     {
-        if self.below.edge_count() > limits::EDGES {
+        if edges > limits::EDGES {
             return None;
         }
         self.plan.as_ref()
@@ -82,8 +84,8 @@ impl<T: Table> Table for Layer<T> {
     }
 
     fn edge_count(&self) -> usize {
-        let added = self.at_work().map_or(0, Plan::added);
-        self.below.edge_count() + added
+        let edges = self.below.edge_count();
+        edges + self.at_work(edges).map_or(0, Plan::added)
     }
 
     fn term_count(&self) -> usize {
@@ -92,7 +94,7 @@ impl<T: Table> Table for Layer<T> {
 
     fn process(&self, p: usize, place: &mut Process) -> bool {
         let found = self.below.process(p, place);
-        if found && let Some(plan) = self.at_work() {
+        if found && let Some(plan) = self.at_work(self.below.edge_count()) {
             plan.close_process(p, place);
         }
         found
@@ -100,19 +102,20 @@ impl<T: Table> Table for Layer<T> {
 
     fn signal(&self, s: usize) -> Option<Signal> {
         let signal = self.below.signal(s)?;
-        Some(match self.at_work() {
+        Some(match self.at_work(self.below.edge_count()) {
             Some(_) => closed_signal(signal),
             None => signal,
         })
     }
 
     fn edge(&self, k: usize) -> Option<Edge> {
-        let Some(plan) = self.at_work() else {
+        let edges = self.below.edge_count();
+        let Some(plan) = self.at_work(edges) else {
             return self.below.edge(k);
         };
         match self.below.edge(k) {
             Some(edge) => Some(plan.close_edge(&self.below, &edge)),
-            None => plan.added_edge(k - self.below.edge_count()),
+            None => plan.added_edge(k - edges),
         }
     }
 

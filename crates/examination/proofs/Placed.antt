@@ -6,9 +6,8 @@ use Rattle.std.proofs.lemmas.Option.{slice_get_within}
 use Rattle.table.specs.Examination.{some, bad_process, too_many, limited, limits_refused, lists_refused, processes_refused, signals_refused, first_location}
 use Rattle.table.specs.Lists.{Lists, Proc}
 use Rattle.table.specs.declared.record.Edge.{Edge}
-use Rattle.examination.specs.Locations.{has_at}
+use Rattle.examination.specs.Locations.{Raised, has_at}
 use Rattle.examination.proofs.Nearest.{location-cong, first_passes, passes-parts}
-use Rattle.examination.proofs.Raised.{Raised}
 
 -- a test that refuses nothing fails
 pub not-refused : {R : Type 0} (b : Bool) (r : R) → cond b (Some r) None ≡ None → b ≡ false

@@ -1,11 +1,9 @@
 //! The locations of a table: which edges leave them, and the two tests of a location.
-ghost use Rattle.std.specs.Prelude.{◌≡◌, ℕ, ◌<◌, Bool, None};
-ghost use Rattle.std.specs.Fn.{FnReturnsAt};
-ghost use Rattle.std.specs.List.{slice_get, list_any};
+ghost use Rattle.std.specs.Prelude.{◌≡◌, ℕ, Bool, None};
+ghost use Rattle.std.specs.List.{slice_get};
 ghost use Rattle.std.specs.Option.{option_map};
-ghost use Rattle.examination.specs.Locations.{has_at, pair};
-ghost use Rattle.table.specs.Examination.{leaves, answer_at, location_in, first_location, limits_refused, locations_refused};
-ghost use Rattle.table.specs.declared.record.Edge.{Edge};
+ghost use Rattle.examination.specs.Locations.{Raised, pair, raised};
+ghost use Rattle.table.specs.Examination.{acts, waits, frees, answer_at, location_in, first_location, limits_refused, locations_refused};
 ghost use Rattle.table.specs.declared.site.Site.{Site};
 ghost use Rattle.refusal.specs.Refusals.{outcome, table_refusal};
 
@@ -15,20 +13,49 @@ use table::questions::{Table, process_at};
 use table::record::Edge;
 use table::site::Site;
 
-/// The locations that some edge leaves which passes the test.
-fn leaving<T: Table, F: Fn(&Edge) -> bool>(table: &T, test: F) -> Locations
-    requires { F.IsAlwaysCallable test }
-    ensures { (f : Edge → Bool) → ((e : Edge) (b : Bool) → FnReturnsAt F.Fn test e b → b ≡ f e) → (p l : ℕ) → p < 8 → l < 16 → has_at result.flags p l ≡ list_any (leaves p l f) (T.lists table.now).edges }
-{
-    let mut found = Locations::none();
-    for k in 0..table.edge_count() {
-        if let Some(edge) = table.edge(k)
-            && test(&edge)
-        {
-            found.note(edge.start());
+/// The locations that some edge leaves: one that acts, one that waits, one that is free.
+#[derive(Drop)]
+struct Ways {
+    acting: Locations,
+    waiting: Locations,
+    free: Locations,
+}
+
+impl Ways {
+    /// Those of all edges of the table.
+    fn of<T: Table>(table: &T) -> Self
+        ensures acting { Raised result.acting.flags acts (T.lists table.now).edges }
+        ensures waiting { Raised result.waiting.flags waits (T.lists table.now).edges }
+        ensures free { Raised result.free.flags frees (T.lists table.now).edges }
+    {
+        let mut found = Ways {
+            acting: Locations::none(),
+            waiting: Locations::none(),
+            free: Locations::none(),
+        };
+        for k in 0..table.edge_count() {
+            if let Some(edge) = table.edge(k) {
+                found.note(&edge);
+            }
+        }
+        found
+    }
+
+    fn note(&mut self, edge: &Edge)
+        ensures acting { self.new.acting.flags ≡ raised acts edge.now self.old.acting.flags }
+        ensures waiting { self.new.waiting.flags ≡ raised waits edge.now self.old.waiting.flags }
+        ensures free { self.new.free.flags ≡ raised frees edge.now self.old.free.flags }
+    {
+        let site = edge.start();
+        if edge.acts() {
+            self.acting.note(site);
+        } else {
+            self.waiting.note(site);
+        }
+        if edge.is_free() {
+            self.free.note(site);
         }
     }
-    found
 }
 
 /// The first location of process p that passes the test.
@@ -57,14 +84,16 @@ pub fn check_locations<T: Table>(table: &T) -> Result<(), TableFault>
     requires { limits_refused (T.lists table.now) ≡ None }
     ensures { outcome table_refusal result ≡ locations_refused (T.lists table.now) }
 {
-    let acting = leaving(table, Edge::acts);
-    let waiting = leaving(table, |edge| !edge.acts());
-    let mixed = find_location(table, |site| acting.has(site) && waiting.has(site));
+    let found = Ways::of(table);
+    let mixed = find_location(table, |site| {
+        found.acting.has(site) && found.waiting.has(site)
+    });
     if let Some(Site { process, location }) = mixed {
         return Err(TableFault::Mixed { process, location });
     }
-    let free = leaving(table, Edge::is_free);
-    let stuck = find_location(table, |site| acting.has(site) && !free.has(site));
+    let stuck = find_location(table, |site| {
+        found.acting.has(site) && !found.free.has(site)
+    });
     if let Some(Site { process, location }) = stuck {
         return Err(TableFault::Stuck { process, location });
     }

@@ -13,6 +13,8 @@ use sheet::view::Sheet;
 use std::alloc::{AllocError, Global};
 
 pub mod lines;
+#[cfg(test)]
+mod tests;
 
 /// The marks of the sheet in these bytes, line by line, or the line that says why they are refused.
 pub fn list(heap: Global, bytes: &[u8]) -> Result<String, AllocError>

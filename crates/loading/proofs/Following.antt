@@ -1,11 +1,11 @@
 -- What the next edge of a location is, where a list is gone through from one such edge to the next.
-use Rattle.std.proofs.Common.{◌≡◌, ℕ, zero, suc, ◌+◌, ◌<◌, ◌≤◌, Bool, true, false, cond, ◌||◌, List, [], ◌∷◌, ◌++◌, length, drop, None, Some, refl, sym, ap, ◌∙◌, arith, add-zero, length-drop, ◌-◌}
-use Rattle.std.specs.List.{flat_map, list_any, slice_get}
+use Rattle.std.proofs.Common.{◌≡◌, ℕ, zero, suc, ◌+◌, ◌<◌, ◌≤◌, Bool, true, false, cond, ◌||◌, List, [], ◌∷◌, length, drop, None, Some, refl, sym, ap, ◌∙◌, arith, add-zero, ◌-◌}
+use Rattle.std.specs.List.{list_any, slice_get}
 use Rattle.std.proofs.lemmas.List.{drop-drop, drop_all}
 use Rattle.table.proofs.Passing.{none-some}
 use Rattle.table.proofs.Windows.{drop-some}
 use Rattle.table.specs.declared.record.Edge.{Edge}
-use Rattle.loading.specs.Following.{leaving, ahead, next_at}
+use Rattle.loading.specs.Following.{leaving, ahead, next_of, next_at}
 
 slice_get-drop : {A : Type 0} (xs : List A) (i j : ℕ) → slice_get (drop i xs) j ≡ slice_get xs (i + j)
 slice_get-drop xs zero j = let z : 0 + j ≡ j = omega arith in rw z
@@ -78,51 +78,69 @@ module _ {A : Type 0} (f : A → Bool) where
       go true h rest = let z = ahead-hit x xs h in absurd (omega arith)
       go false h rest = let z = ahead-miss x xs h in let ih = rest (omega arith) in omega arith
 
+module _ {A : Type 0} (f : A → Bool) (xs : List A) (i : ℕ) where
+  pub of-above : i ≤ next_of f xs i
+  unfolding next_of
+  of-above = omega arith
+
+  pub of-past : length xs ≤ i → next_of f xs i ≡ i
+  unfolding next_of ahead
+  of-past le = rw (drop_all i xs le) (add-zero i)
+
+  pub of-here : (x : A) → slice_get xs i ≡ Some x → f x ≡ true → next_of f xs i ≡ i
+  unfolding next_of
+  of-here x there h = rw (drop-some xs i x there) (rw (ahead-hit f x (drop (i + 1) xs) h) (add-zero i))
+
+  pub of-later : (x : A) → slice_get xs i ≡ Some x → f x ≡ false → next_of f xs i ≡ next_of f xs (i + 1)
+  unfolding next_of
+  of-later x there h = rw (drop-some xs i x there) (rw (ahead-miss f x (drop (i + 1) xs) h) (omega arith))
+
+  pub of-passes : (x : A) → slice_get xs (next_of f xs i) ≡ Some x → f x ≡ true
+  unfolding next_of
+  of-passes x there = ahead-passes f (drop i xs) x (slice_get-drop xs i (ahead f (drop i xs)) ∙ there)
+
+  pub of-fails : (j : ℕ) (x : A) → i ≤ j → j < next_of f xs i → slice_get xs j ≡ Some x → f x ≡ false
+  unfolding next_of
+  of-fails j x le lt there =
+      let q : i + (j - i) ≡ j = omega arith in
+      ahead-fails f (drop i xs) (j - i) x (omega arith) (slice_get-drop xs i (j - i) ∙ (rw q there))
+
 module _ (es : List Edge) (p l i : ℕ) where
   pub next-above : i ≤ next_at es p l i
   unfolding next_at
-  next-above = omega arith
-
-  pub next-within : i ≤ length es → next_at es p l i ≤ length es
-  unfolding next_at
-  next-within le = let a = ahead-within (leaving p l) (drop i es) in let d = length-drop i es in omega arith
+  next-above = of-above (leaving p l) es i
 
   pub next-end : length es ≤ i → next_at es p l i ≡ i
-  unfolding next_at ahead
-  next-end le = rw (drop_all i es le) (add-zero i)
+  unfolding next_at
+  next-end le = of-past (leaving p l) es i le
 
   pub next-here : (e : Edge) → slice_get es i ≡ Some e → leaving p l e ≡ true → next_at es p l i ≡ i
   unfolding next_at
-  next-here e there h = rw (drop-some es i e there) (rw (ahead-hit (leaving p l) e (drop (i + 1) es) h) (add-zero i))
+  next-here e there h = of-here (leaving p l) es i e there h
 
   pub next-later : (e : Edge) → slice_get es i ≡ Some e → leaving p l e ≡ false → next_at es p l i ≡ next_at es p l (i + 1)
   unfolding next_at
-  next-later e there h = rw (drop-some es i e there) (rw (ahead-miss (leaving p l) e (drop (i + 1) es) h) (omega arith))
+  next-later e there h = of-later (leaving p l) es i e there h
 
   -- the edges up to the next one tell nothing, where an edge that leaves another location tells nothing
   next-skips : {B : Type 0} (g : List Edge → B) → ((e : Edge) (rest : List Edge) → leaving p l e ≡ false → g (e ∷ rest) ≡ g rest) → g (drop i es) ≡ g (drop (next_at es p l i) es)
-  unfolding next_at
+  unfolding next_at next_of
   next-skips g off = ahead-skips (leaving p l) g off (drop i es) ∙ ap g (drop-drop (ahead (leaving p l) (drop i es)) i es)
-
-  pub next-flat : {B : Type 0} (f : Edge → List B) → ((e : Edge) → leaving p l e ≡ false → f e ≡ []) → flat_map f (drop i es) ≡ flat_map f (drop (next_at es p l i) es)
-  next-flat f off = next-skips (flat_map f) (λ e rest h. ap (λ b. b ++ flat_map f rest) (off e h))
 
   pub next-any : (f : Edge → Bool) → ((e : Edge) → leaving p l e ≡ false → f e ≡ false) → list_any f (drop i es) ≡ list_any f (drop (next_at es p l i) es)
   next-any f off = next-skips (list_any f) (λ e rest h. ap (λ b. b || list_any f rest) (off e h))
 
   pub next-leaves : (e : Edge) → slice_get es (next_at es p l i) ≡ Some e → leaving p l e ≡ true
   unfolding next_at
-  next-leaves e there = ahead-passes (leaving p l) (drop i es) e (slice_get-drop es i (ahead (leaving p l) (drop i es)) ∙ there)
+  next-leaves e there = of-passes (leaving p l) es i e there
 
   pub none-before-next : (j : ℕ) (e : Edge) → i ≤ j → j < next_at es p l i → slice_get es j ≡ Some e → leaving p l e ≡ false
   unfolding next_at
-  none-before-next j e le lt there =
-      let q : i + (j - i) ≡ j = omega arith in
-      ahead-fails (leaving p l) (drop i es) (j - i) e (omega arith) (slice_get-drop es i (j - i) ∙ (rw q there))
+  none-before-next j e le lt there = of-fails (leaving p l) es i j e le lt there
 
   -- from anywhere before the next one on, it is the next one
   pub next-same : (j : ℕ) → i ≤ j → j ≤ next_at es p l i → next_at es p l j ≡ next_at es p l i
-  unfolding next_at
+  unfolding next_at next_of
   next-same j lo hi =
       let q : j ≡ i + (j - i) = omega arith in
       let n : j - i ≤ ahead (leaving p l) (drop i es) = omega arith in

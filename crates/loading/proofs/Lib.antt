@@ -1,4 +1,5 @@
 pub mod Built
+pub mod Chaining
 pub mod Filling
 pub mod Following
 pub mod Limited

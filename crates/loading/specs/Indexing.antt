@@ -6,11 +6,14 @@
 --   linked fs ns p l k   the next numbers ns after that
 --   Built fs ns es k     fs and ns are those of the edges of es from number k on
 --   Indexes index es     the index is that of the edges es
-use Rattle.std.specs.Prelude.{◌≡◌, ℕ, ◌+◌, ◌*◌, ◌<◌, ◌≤◌, Bool, cond, ◌&&◌, List, Some, nat_lt, slice_index, slice_set}
+--   Chained fs ns es k   of the inputs among the edges of es from number k on: fs are the first of each signal, and ns the next of each
+--   Chains inputs es     the index of inputs is that of the edges es
+use Rattle.std.specs.Prelude.{◌≡◌, ℕ, true, ◌+◌, ◌*◌, ◌<◌, ◌≤◌, Bool, cond, ◌&&◌, List, Some, nat_lt, slice_index, slice_set}
 use Rattle.std.specs.List.{slice_get}
 use Rattle.table.specs.declared.record.Edge.{Edge}
-use Rattle.loading.specs.Following.{next_at}
+use Rattle.loading.specs.Following.{next_at, next_of, taking}
 use Rattle.loading.specs.declared.index.Index.{Index}
+use Rattle.loading.specs.declared.index.Inputs.{Inputs}
 
 abbrev pub within : ℕ → ℕ → Bool
 within p l = nat_lt p 8 && nat_lt l 16
@@ -33,3 +36,10 @@ pub record Built (fs ns : List ℕ) (es : List Edge) (k : ℕ) : Type 0 where
 
 abbrev pub Indexes : Index → List Edge → Type 0
 Indexes index es = Built index.first index.next es 0
+
+pub record Chained (fs ns : List ℕ) (es : List Edge) (k : ℕ) : Type 0 where
+  pub firsts : (s : ℕ) → s < 64 → slice_index fs s ≡ next_of (taking s) es k
+  pub nexts : (s j : ℕ) (e : Edge) → s < 64 → k ≤ j → slice_get es j ≡ Some e → taking s e ≡ true → slice_index ns j ≡ next_of (taking s) es (j + 1)
+
+abbrev pub Chains : Inputs → List Edge → Type 0
+Chains inputs es = Chained inputs.first inputs.next es 0

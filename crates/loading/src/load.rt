@@ -1,5 +1,6 @@
 //! Loading a table.
 ghost use Rattle.std.specs.Prelude.{◌≡◌, None, IfOk};
+ghost use Rattle.loading.specs.Indexing.{Indexes};
 ghost use Rattle.loading.specs.Loading.{lists_of};
 ghost use Rattle.refusal.specs.Refusals.{outcome, table_refusal};
 ghost use Rattle.table.specs.Examination.{limits_refused};
@@ -12,7 +13,8 @@ use refusal::fault::TableFault;
 use table::questions::Table;
 
 impl Loaded {
-    /// A copy of a table that is within its limits.
+    /// A copy of a table that is within its limits. This stands apart so that whoever makes one sets its memory aside only here.
+    #[inline(never)]
     pub fn of<T: Table>(table: &T) -> Loaded
         requires { limits_refused (T.lists table.now) ≡ None }
         ensures { lists_of result ≡ T.lists table.now }
@@ -28,6 +30,13 @@ impl Loaded {
             terms: terms(table),
             index: Index::of(table),
         }
+    }
+
+    /// The index of its edges by the location they leave.
+    pub fn index(&self) -> &Index
+        ensures { Indexes result.now (lists_of self.now).edges }
+    {
+        &self.index
     }
 }
 

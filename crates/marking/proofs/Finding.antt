@@ -1,11 +1,9 @@
--- Some element of a list: by its place, as `any` says it, and as a member of joined lists.
-use Rattle.std.proofs.Common.{◌≡◌, ℕ, zero, suc, ◌<◌, Bool, true, false, List, [], ◌∷◌, Some, sym, refl, ap, ◌∙◌, subst, ⊎_elim, arith}
-use mathlib.Core.List.Memᴰ
-use mathlib.Core.List.{Memᴰ}
+-- Some element of a list: by its place, and as `any` says it.
+use Rattle.std.proofs.Common.{◌≡◌, ℕ, zero, suc, ◌<◌, Bool, true, false, List, [], ◌∷◌, Some, sym, refl, ap, ◌∙◌, ⊎_elim, arith}
 use Rattle.std.proofs.lemmas.Bool.{or_cases, or_left, or_right, both_ways}
 use Rattle.std.proofs.lemmas.List.FromFn.{length-range_with_len, get_or-range_with_len}
-use Rattle.std.proofs.lemmas.Option.{slice_get-get_or, slice_get_within, get_or_from_slice_get}
-use Rattle.std.specs.List.{slice_get, flat_map, list_any, range_with_len}
+use Rattle.std.proofs.lemmas.Option.{slice_get-get_or}
+use Rattle.std.specs.List.{slice_get, list_any, range_with_len}
 use Rattle.marks.specs.Rules.{indices}
 
 -- an element of xs with a property, and its place
@@ -31,29 +29,11 @@ found-any f [] k x e h = let z : ◌≡◌ {A = ℕ} 0 1 = cc in absurd (omega a
 found-any f (y ∷ ys) zero x e h = let q : x ≡ y = cc in or_left (f y) (list_any f ys) (ap f (sym q) ∙ h)
 found-any f (y ∷ ys) (suc k) x e h = or_right (f y) (list_any f ys) (found-any f ys k x e h)
 
-pub joined-found : {A : Type 0} (f : A → List ℕ) (xs : List A) (i : ℕ) → Memᴰ i (flat_map f xs) → Found (λ x. Memᴰ i (f x)) xs
-joined-found f [] i m = absurd (Memᴰ.not-nil m)
-joined-found f (x ∷ xs) i m =
-    ⊎_elim
-    (λ h. record { place = 0; item = x; stands = refl; holds = h })
-    (λ h. found-later (λ y. Memᴰ i (f y)) x xs (joined-found f xs i h))
-    (Memᴰ.append_cases (f x) m)
-
-pub found-joined : {A : Type 0} (f : A → List ℕ) (xs : List A) (k : ℕ) (x : A) (i : ℕ) → slice_get xs k ≡ Some x → Memᴰ i (f x) → Memᴰ i (flat_map f xs)
-found-joined f [] k x i e m = let z : ◌≡◌ {A = ℕ} 0 1 = cc in absurd (omega arith)
-found-joined f (y ∷ ys) zero x i e m = let q : x ≡ y = cc in Memᴰ.append_left (flat_map f ys) (subst (λ z. Memᴰ i (f z)) q m)
-found-joined f (y ∷ ys) (suc k) x i e m = Memᴰ.append_right (f y) (found-joined f ys k x i e m)
-
 -- the numbers below n, in order
-pub number-at : (n v : ℕ) → v < n → slice_get (range_with_len 0 n) v ≡ Some v
+number-at : (n v : ℕ) → v < n → slice_get (range_with_len 0 n) v ≡ Some v
 number-at n v h =
     slice_get-get_or (range_with_len 0 n) v 0 (omega (arith, length-range_with_len 0 n))
     ∙ ap Some (omega (arith, get_or-range_with_len 0 n v 0 h))
-
-pub number-below : (n k v : ℕ) → slice_get (range_with_len 0 n) k ≡ Some v → v < n
-number-below n k v e =
-    let h = slice_get_within (range_with_len 0 n) k v e in
-    omega (arith, length-range_with_len 0 n, get_or-range_with_len 0 n k 0 (omega (arith, length-range_with_len 0 n)), get_or_from_slice_get (range_with_len 0 n) k v 0 e)
 
 pub index_at : (v : ℕ) → v < 8 → slice_get indices v ≡ Some v
 unfolding indices

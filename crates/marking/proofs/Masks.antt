@@ -1,92 +1,32 @@
 -- Words as sets of bits.
-use Rattle.std.proofs.Common.{w16, ◌≡◌, ℕ, zero, suc, ◌+◌, ◌-◌, ◌*◌, ◌/◌, ◌%◌, ◌^◌, ◌<◌, ◌≤◌, Bool, true, false, not, ◌&&◌, ◌||◌, eqb, ltb, List, [], ◌∷◌, take, drop, min, ℤ, pos, negsuc, Option, Some, None, refl, sym, ap, ◌∙◌, ⊎_elim, pow-suc, arith}
-use lib.Bits.{bit_and, bit_or, bit_xor}
+use Rattle.std.proofs.Common.{w16, ◌≡◌, ℕ, zero, suc, ◌+◌, ◌-◌, ◌*◌, ◌%◌, ◌^◌, ◌<◌, ◌≤◌, Bool, true, false, not, ◌&&◌, ◌||◌, eqb, ltb, List, [], ◌∷◌, take, drop, ℤ, pos, negsuc, refl, sym, ap, ◌∙◌, ⊎_elim, arith}
 use Rattle.std.specs.List.{list_any}
 use Rattle.std.specs.Int.{bit_at}
 use Rattle.std.proofs.lemmas.Nat.{one_shl}
-use Rattle.std.proofs.lemmas.Nat.Bits.{bit_at_and, bit_at_not, bit_at_xor}
+use Rattle.std.proofs.lemmas.Nat.Bits.{bit_at_not}
 use Rattle.std.proofs.lemmas.Bool.{cases_eq, eq-eqb, ne_eqb, ltb-true, ltb-false}
-use Rattle.std.proofs.lemmas.Bool.Decides.{nat_tests}
 use Rattle.table.specs.Expressions.{mentions, names, reads, suits}
 use Rattle.table.specs.Records.{operation_of}
 use Rattle.table.specs.declared.record.Operation.TheVariants.{Variable}
 use Rattle.table.specs.declared.record.Term.{Term}
 use Rattle.table.proofs.Windows.{window, window-whole}
 use Rattle.marks.specs.Words.{bit}
-use Rattle.marking.specs.Flows.{aims}
-use Rattle.marking.specs.Leads.{listed}
-use Rattle.marking.specs.Nodes.{among}
-use Rattle.marks.proofs.Bitwise.{bit-suc, bit-pow, bit-zero, bit-or}
+use Rattle.marks.proofs.Bitwise.{bit-pow, bit-zero}
 
-pub and-none : (b : Bool) → (b && false) ≡ false
+and-none : (b : Bool) → (b && false) ≡ false
 and-none true = refl
 and-none false = refl
-
-one-both : (x y : ℕ) → x < 2 → y < 2 → eqb (min x y) 1 ≡ (eqb x 1 && eqb y 1)
-one-both zero zero h k = refl
-one-both zero (suc zero) h k = refl
-one-both (suc zero) zero h k = refl
-one-both (suc zero) (suc zero) h k = refl
-one-both zero (suc (suc y)) h k = absurd (omega arith)
-one-both (suc zero) (suc (suc y)) h k = absurd (omega arith)
-one-both (suc (suc x)) y h k = absurd (omega arith)
 
 one-other : (x : ℕ) → x < 2 → eqb (1 - x) 1 ≡ not (eqb x 1)
 one-other zero h = refl
 one-other (suc zero) h = refl
 one-other (suc (suc x)) h = absurd (omega arith)
 
-pub bit-and : (a b n : ℕ) → bit (bit_and a b) n ≡ (bit a n && bit b n)
-unfolding bit
-bit-and a b n = ap (λ y. eqb y 1) (bit_at_and a b n) ∙ one-both (bit_at a n) (bit_at b n) (omega arith) (omega arith)
-
-one-apart : (x y : ℕ) → x < 2 → y < 2 → eqb ((x + y) % 2) 1 ≡ ((eqb x 1 && not (eqb y 1)) || (not (eqb x 1) && eqb y 1))
-one-apart zero zero h k = refl
-one-apart zero (suc zero) h k = refl
-one-apart (suc zero) zero h k = refl
-one-apart (suc zero) (suc zero) h k = refl
-one-apart zero (suc (suc y)) h k = absurd (omega arith)
-one-apart (suc zero) (suc (suc y)) h k = absurd (omega arith)
-one-apart (suc (suc x)) y h k = absurd (omega arith)
-
-bit-xor : (a b n : ℕ) → bit (bit_xor a b) n ≡ ((bit a n && not (bit b n)) || (not (bit a n) && bit b n))
-unfolding bit
-bit-xor a b n = ap (λ y. eqb y 1) (bit_at_xor a b n) ∙ one-apart (bit_at a n) (bit_at b n) (omega arith) (omega arith)
-
-newer : (w b : Bool) → (((w || b) && not w) || (not (w || b) && w)) ≡ (b && not w)
-newer true true = refl
-newer true false = refl
-newer false true = refl
-newer false false = refl
-
--- the bits of b that w lacks
-pub bit-new : (w b n : ℕ) → bit (bit_xor (bit_or w b) w) n ≡ (bit b n && not (bit w n))
-bit-new w b n =
-    bit-xor (bit_or w b) w n
-    ∙ ap (λ x. (x && not (bit w n)) || (not x && bit w n)) (bit-or w b n)
-    ∙ newer (bit w n) (bit b n)
-
 pub bit-not : (w n : ℕ) → w < 65536 → n < 16 → bit (65535 - w) n ≡ not (bit w n)
 unfolding bit
 bit-not w n h k = ap (λ y. eqb y 1) (bit_at_not w16 w n h k) ∙ one-other (bit_at w n) (omega arith)
 
--- a word that is not 0 has a bit
-odd-bit : (w : ℕ) → w % 2 ≡ 1 → bit w 0 ≡ true
-unfolding bit
-odd-bit w e = let q : w / 1 % 2 ≡ 1 = omega arith in eq-eqb (w / 1 % 2) 1 q
-
-pub some-bit : (k w : ℕ) → w < 2 ^ k → (w ≡ 0 → ⊥) → (b : ℕ) × ((b < k) × (bit w b ≡ true))
-some-bit zero w h n = absurd (n (omega arith))
-some-bit (suc k) w h n = by (w % 2) refl (some-bit k (w / 2) (omega (arith, pow-suc 2 k)))
-  where
-    by : (r : ℕ) → w % 2 ≡ r → ((w / 2 ≡ 0 → ⊥) → (b : ℕ) × ((b < k) × (bit (w / 2) b ≡ true))) → (b : ℕ) × ((b < suc k) × (bit w b ≡ true))
-    by zero e more =
-        let x = more (λ q. n (omega arith)) in
-        (suc x.0, (omega (arith, x.1.0), bit-suc w x.0 ∙ x.1.1))
-    by (suc zero) e more = (0, (omega arith, odd-bit w e))
-    by (suc (suc r)) e more = absurd (omega arith)
-
-pub eqb-swap : (m n : ℕ) → eqb m n ≡ eqb n m
+eqb-swap : (m n : ℕ) → eqb m n ≡ eqb n m
 eqb-swap m n = ⊎_elim (λ e. eq-eqb m n e ∙ sym (eq-eqb n m (sym e))) (λ d. ne_eqb m n d ∙ sym (ne_eqb n m (λ e. d (sym e)))) (cases_eq m n)
 
 pub single_bit : (n b : ℕ) → n < 16 → bit (1 * 2 ^ n % 65536) b ≡ eqb n b
@@ -140,17 +80,3 @@ read-whole b ts start count s n i all p q z h =
     sym (or-none (bit all b)) ∙ ap (λ x. bit all b || x) (sym z) ∙ h ∙ ap (list_any (variable-read b)) (window-whole ts s n)
     ∙ ap (λ m. list_any (variable-read b) (take n (drop m ts))) p ∙ ap (λ m. list_any (variable-read b) (take m (drop start ts))) q
     ∙ read-all b (take count (drop start ts))
-
--- a node by its word and bit
-
-pub aims-one : (o : Option ℕ) (n s : ℕ) → o ≡ Some n → ((b : ℕ) → b < 16 → bit s b ≡ eqb (n % 16) b) → (i : ℕ) → aims (record { word = n / 16; bits = s }) i ≡ among (listed o) i
-unfolding among
-aims-one o n s e h i =
-    ap (λ x. eqb (i / 16) (n / 16) && x) (h (i % 16) (omega arith)) ∙ same-node ∙ ap (λ q. list_any (λ j. eqb i j) (listed q)) (sym e)
-  where
-    same-node : (eqb (i / 16) (n / 16) && eqb (n % 16) (i % 16)) ≡ (eqb i n || false)
-    same-node = grind (arith, nat_tests)
-
-pub aims-none : (o : Option ℕ) → o ≡ None → (i : ℕ) → aims (record { word = 0; bits = 0 }) i ≡ among (listed o) i
-unfolding among
-aims-none o e i = ap (λ x. eqb (i / 16) 0 && x) (bit-zero (i % 16)) ∙ and-none (eqb (i / 16) 0) ∙ ap (λ q. list_any (λ j. eqb i j) (listed q)) (sym e)

@@ -1,5 +1,6 @@
 -- Marks read off the words: of a marking, a marked expression and a marked signal.
-use Rattle.std.proofs.Common.{◌≡◌, ℕ, ◌+◌, ◌*◌, ◌<◌, Bool, true, false, cond, ◌&&◌, eqb, ltb, List, get_or, take, Some, sym, refl, ap, ◌∙◌, arith}
+use Rattle.std.proofs.Common.{◌≡◌, ℕ, ◌+◌, ◌*◌, ◌<◌, Bool, true, false, cond, ◌&&◌, eqb, ltb, List, get_or, Some, refl, ap, ◌∙◌, arith}
+use Rattle.std.proofs.lemmas.Bool.Decides.{nat_tests}
 use Rattle.std.proofs.lemmas.Bool.{and_parts, and_from, lt-ltb, ltb-true, eqb-true, eq-eqb, both_ways, cond-true}
 use Rattle.std.specs.List.{slice_get}
 use Rattle.table.specs.Expressions.{part, mentions}
@@ -9,62 +10,46 @@ use Rattle.table.specs.declared.record.Edge.{Edge}
 use Rattle.table.specs.declared.record.Kind.{Kind}
 use Rattle.table.specs.declared.record.Kind.TheVariants.{Input, Output, Assignment, Set, Reset, Timeout, Rearm, Skip, Unknown}
 use Rattle.table.specs.declared.record.Span.{Span}
-use Rattle.marking.specs.Nodes.{node, has}
 use Rattle.marks.specs.Rules.{Marking, indices, marked, is_output, signal_marked}
 use Rattle.marks.specs.Words.{bit, word_at, marks_in}
 use Rattle.marks.proofs.Bitwise.{bit-zero}
 use Rattle.marking.proofs.Finding.{any_found, found-any, index_at}
-use Rattle.marking.proofs.Nodes.{has-at, has-take}
 
--- the bit b of a location is set: then there is such a location, and the node is marked
-pub record Stands (ws : List ℕ) (p l b : ℕ) : Type 0 where
+-- the bit b of a location is set: then there is such a location
+pub record Here (ws : List ℕ) (p l b : ℕ) : Type 0 where
   pub process : p < 8
   pub location : l < 16
-  pub marked : has ws (node p l b) ≡ true
+  pub is_set : bit (get_or ws (16 * p + l) 0) b ≡ true
 
-node_at : (ws : List ℕ) (p l b : ℕ) → b < 16 → has ws (node p l b) ≡ bit (get_or ws (16 * p + l) 0) b
-node_at ws p l b h =
-    let e : node p l b ≡ 16 * (16 * p + l) + b = omega arith in
-    ap (has ws) e ∙ has-at ws (16 * p + l) b h
+module _ (ws : List ℕ) (p l b : ℕ) where
+  word-here : bit (word_at ws p l) b ≡ true → Here ws p l b
+  word-here e = by (ltb p 8 && ltb l 16) refl e
+    where
+      by : (t : Bool) → (ltb p 8 && ltb l 16) ≡ t → bit (cond t (get_or ws (16 * p + l) 0) 0) b ≡ true → Here ws p l b
+      by true q k = record { process = grind (arith, nat_tests); location = grind (arith, nat_tests); is_set = k }
+      by false q k = absurd (both_ways (bit 0 b) (bit-zero b) k)
 
-pub word_stands : (ws : List ℕ) (p l b : ℕ) → b < 16 → bit (word_at (take 128 ws) p l) b ≡ true → Stands ws p l b
-word_stands ws p l b h e = by (ltb p 8 && ltb l 16) refl e
-  where
-    by : (t : Bool) → (ltb p 8 && ltb l 16) ≡ t → bit (cond t (get_or (take 128 ws) (16 * p + l) 0) 0) b ≡ true → Stands ws p l b
-    by true q k =
-        let x = and_parts (ltb p 8) (ltb l 16) q in
-        let i = ltb-true p 8 x.0 in
-        let j = ltb-true l 16 x.1 in
-        record {
-          process = i;
-          location = j;
-          marked = sym (has-take 128 ws (node p l b) (omega arith)) ∙ node_at (take 128 ws) p l b h ∙ k;
-        }
-    by false q k = absurd (both_ways (bit 0 b) (bit-zero b) k)
-
-pub stands_word : (ws : List ℕ) (p l b : ℕ) → b < 16 → p < 8 → l < 16 → has ws (node p l b) ≡ true → bit (word_at (take 128 ws) p l) b ≡ true
-stands_word ws p l b h i j e =
-    ap (λ w. bit w b) (cond-true (ltb p 8 && ltb l 16) (get_or (take 128 ws) (16 * p + l) 0) 0 (and_from (ltb p 8) (ltb l 16) (lt-ltb p 8 i) (lt-ltb l 16 j)))
-    ∙ sym (node_at (take 128 ws) p l b h) ∙ has-take 128 ws (node p l b) (omega arith) ∙ e
+  here-word : Here ws p l b → bit (word_at ws p l) b ≡ true
+  here-word s =
+      ap (λ w. bit w b) (cond-true (ltb p 8 && ltb l 16) (get_or ws (16 * p + l) 0) 0 (and_from (ltb p 8) (ltb l 16) (lt-ltb p 8 s.process) (lt-ltb l 16 s.location)))
+      ∙ s.is_set
 
 module _ (ws : List ℕ) (p l n : ℕ) where
-  pub variable-stands : (marks_in (take 128 ws)).variable p l n ≡ true → (n < 8) × Stands ws p l n
-  variable-stands e =
-      let x = and_parts (ltb n 8) (bit (word_at (take 128 ws) p l) n) e in
-      let h = ltb-true n 8 x.0 in
-      (h, word_stands ws p l n (omega arith) x.1)
+  pub variable-here : (marks_in ws).variable p l n ≡ true → (n < 8) × Here ws p l n
+  variable-here e =
+      let x = and_parts (ltb n 8) (bit (word_at ws p l) n) e in
+      (ltb-true n 8 x.0, word-here ws p l n x.1)
 
-  pub timer-stands : (marks_in (take 128 ws)).timer p l n ≡ true → (n < 8) × Stands ws p l (8 + n)
-  timer-stands e =
-      let x = and_parts (ltb n 8) (bit (word_at (take 128 ws) p l) (8 + n)) e in
-      let h = ltb-true n 8 x.0 in
-      (h, word_stands ws p l (8 + n) (omega arith) x.1)
+  pub timer-here : (marks_in ws).timer p l n ≡ true → (n < 8) × Here ws p l (8 + n)
+  timer-here e =
+      let x = and_parts (ltb n 8) (bit (word_at ws p l) (8 + n)) e in
+      (ltb-true n 8 x.0, word-here ws p l (8 + n) x.1)
 
-  pub stands-variable : n < 8 → p < 8 → l < 16 → has ws (node p l n) ≡ true → (marks_in (take 128 ws)).variable p l n ≡ true
-  stands-variable h i j e = and_from (ltb n 8) (bit (word_at (take 128 ws) p l) n) (lt-ltb n 8 h) (stands_word ws p l n (omega arith) i j e)
+  pub here-variable : n < 8 → Here ws p l n → (marks_in ws).variable p l n ≡ true
+  here-variable h s = and_from (ltb n 8) (bit (word_at ws p l) n) (lt-ltb n 8 h) (here-word ws p l n s)
 
-  pub stands-timer : n < 8 → p < 8 → l < 16 → has ws (node p l (8 + n)) ≡ true → (marks_in (take 128 ws)).timer p l n ≡ true
-  stands-timer h i j e = and_from (ltb n 8) (bit (word_at (take 128 ws) p l) (8 + n)) (lt-ltb n 8 h) (stands_word ws p l (8 + n) (omega arith) i j e)
+  pub here-timer : n < 8 → Here ws p l (8 + n) → (marks_in ws).timer p l n ≡ true
+  here-timer h s = and_from (ltb n 8) (bit (word_at ws p l) (8 + n)) (lt-ltb n 8 h) (here-word ws p l (8 + n) s)
 
 module _ (T : Lists) (M : Marking) where
   -- a variable that makes an expression a marked one

@@ -1,18 +1,12 @@
--- Which nodes an edge leads to. A node below 2048 is a variable or timer at a location; from there on they are signals.
--- The names that end in As take the edge's kind, or the signal's class, as an argument of their own.
---   listed o              the node o, if there is one
+-- Where an edge leads marks. The names that end in As take the edge's kind, or the signal's class, as an argument of their own.
+--   Bounded e             the process and the location that e goes to, and the timer that it sets, are so small that the sums below fit a byte
+--   at_start e b          the variable or timer of bit b where the edge e begins
+--   at_end e b            the same where it ends
 --   received e            the variable that the input e stores, where e ends
 --   touches e b           the edge e stores, sets, resets, times out or rearms what has bit b
 --   is_internal, is_inbound the class of a signal
 --   fed T e               what a marked value of e marks: a variable, a timer or an internal signal
---   seeds T e             what e marks by itself: the variable of an input of an inbound signal
---   passed b e            bit b where e ends, unless e touches it
---   fed_by T b e          what the value of e marks, if it mentions variable b
---   from_instance T i e   what e marks where the variable or timer i is marked, if e leaves its location
---   from_signal s e       the variable of an input of signal s
---   leads T i e           what e marks where node i is marked
-use Rattle.std.specs.Prelude.{ℕ, ◌+◌, ◌-◌, ◌*◌, ◌/◌, ◌%◌, Bool, true, false, cond, not, ◌&&◌, List, [], ◌∷◌, ◌++◌, Some, None, Option, ◌==◌, nat_lt}
-use Rattle.table.specs.Expressions.{part, mentions}
+use Rattle.std.specs.Prelude.{◌≡◌, ℕ, ◌+◌, ◌*◌, ◌<◌, Bool, true, false, cond, not, ◌&&◌, Some, None, Option, ◌==◌}
 use Rattle.table.specs.Lists.{Lists}
 use Rattle.table.specs.Records.{kind_of}
 use Rattle.table.specs.declared.record.Class.{Class}
@@ -20,25 +14,26 @@ use Rattle.table.specs.declared.record.Class.TheVariants.{Internal, Inbound, Out
 use Rattle.table.specs.declared.record.Edge.{Edge}
 use Rattle.table.specs.declared.record.Kind.{Kind}
 use Rattle.table.specs.declared.record.Kind.TheVariants.{Input, Output, Assignment, Set, Reset, Timeout, Rearm, Skip, Unknown}
-use Rattle.marking.specs.Nodes.{node}
+use Rattle.marking.specs.declared.flow.Fed.{Fed}
+use Rattle.marking.specs.declared.instance.Instance.{Instance}
 use Rattle.marks.specs.Rules.{class_at}
 
-abbrev pub listed : Option ℕ → List ℕ
-listed None = []
-listed (Some i) = i ∷ []
+pub record Bounded (e : Edge) : Type 0 where
+  pub process : e.process < 8
+  pub to : e.to < 16
+  pub timer : kind_of e.kind ≡ Set → e.first < 8
 
-abbrev pub received_as : Kind → Edge → Option ℕ
-received_as Input e = cond (e.second == 15) None (Some (node e.process e.to e.second))
-received_as Output e = None
-received_as Assignment e = None
-received_as Set e = None
-received_as Reset e = None
-received_as Timeout e = None
-received_as Rearm e = None
-received_as Skip e = None
-received_as Unknown e = None
+abbrev pub at_start : Edge → ℕ → Instance
+at_start e b = record { site = 16 * e.process + e.from; index = b }
 
-unfoldable pub received : Edge → Option ℕ
+abbrev pub at_end : Edge → ℕ → Instance
+at_end e b = record { site = 16 * e.process + e.to; index = b }
+
+abbrev pub received_as : Kind → Edge → Option Instance
+received_as Input e = cond (e.second == 15) None (Some (at_end e e.second))
+received_as _ e = None
+
+unfoldable pub received : Edge → Option Instance
 received e = received_as (kind_of e.kind) e
 
 abbrev pub touches_as : Kind → Edge → ℕ → Bool
@@ -69,34 +64,11 @@ is_inbound Outbound = false
 is_inbound Absent = false
 is_inbound Class.Unknown = false
 
-abbrev pub fed_as : Class → Kind → Edge → Option ℕ
-fed_as c Input e = None
-fed_as c Output e = cond (is_internal c) (Some (2048 + e.first)) None
-fed_as c Assignment e = Some (node e.process e.to e.first)
-fed_as c Set e = Some (node e.process e.to (8 + e.first))
-fed_as c Reset e = None
-fed_as c Timeout e = None
-fed_as c Rearm e = None
-fed_as c Skip e = None
-fed_as c Unknown e = None
+abbrev pub fed_as : Class → Kind → Edge → Fed
+fed_as c Output e = cond (is_internal c) (Fed.Signal e.first) Fed.Nothing
+fed_as c Assignment e = Fed.Instance (at_end e e.first)
+fed_as c Set e = Fed.Instance (at_end e (8 + e.first))
+fed_as c _ e = Fed.Nothing
 
-unfoldable pub fed : Lists → Edge → Option ℕ
+unfoldable pub fed : Lists → Edge → Fed
 fed T e = fed_as (class_at T e.first) (kind_of e.kind) e
-
-unfoldable pub seeds : Lists → Edge → List ℕ
-seeds T e = cond (is_inbound (class_at T e.first)) (listed (received e)) []
-
-abbrev pub passed : ℕ → Edge → List ℕ
-passed b e = cond (touches e b) [] (node e.process e.to b ∷ [])
-
-abbrev pub fed_by : Lists → ℕ → Edge → List ℕ
-fed_by T b e = cond (nat_lt b 8 && mentions (part T.terms e.value) b) (listed (fed T e)) []
-
-abbrev pub from_instance : Lists → ℕ → Edge → List ℕ
-from_instance T i e = cond (i / 16 == 16 * e.process + e.from) (passed (i % 16) e ++ fed_by T (i % 16) e) []
-
-abbrev pub from_signal : ℕ → Edge → List ℕ
-from_signal s e = cond (e.first == s) (listed (received e)) []
-
-unfoldable pub leads : Lists → ℕ → Edge → List ℕ
-leads T i e = cond (nat_lt i 2048) (from_instance T i e) (from_signal (i - 2048) e)

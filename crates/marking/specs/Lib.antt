@@ -1,5 +1,5 @@
 pub mod Example
 pub mod Flows
+pub mod Instances
 pub mod Leads
-pub mod Nodes
-pub mod Spreading
+pub mod Searching

@@ -1,56 +1,38 @@
-//! What an edge does to marks, worked out once: by words, so that all marks of a location are followed at one time.
-ghost use Rattle.std.specs.Prelude.{◌≡◌, ℕ, ◌<◌, ◌≤◌, ◌&&◌, ◌==◌, IfSome, nat_lt};
-ghost use Rattle.marking.specs.Flows.{Stands, aims};
-ghost use Rattle.marking.specs.Leads.{listed};
-ghost use Rattle.marking.specs.Nodes.{among};
+//! What an edge does to marks, worked out once.
+ghost use Rattle.std.specs.Prelude.{◌≡◌, ℕ, ◌<◌, ◌&&◌, nat_lt};
+ghost use Rattle.marking.specs.Flows.{Stands};
+ghost use Rattle.marking.specs.Leads.{Bounded};
 ghost use Rattle.marks.specs.Words.{bit};
 ghost use Rattle.table.specs.Expressions.{mentions, names, part, reads, suits};
 ghost use Rattle.table.specs.declared.record.Operation.TheVariants.{Variable};
 
-use crate::leads::{fed, received, touched, word_at_end};
+use crate::instance::Instance;
+use crate::leads::{fed, received, site_at_end, touched};
 use crate::word::single;
 use table::questions::Table;
 use table::record::{Edge, Operation, Span, Term};
 
-/// A node by its word and bit; or no node, where no bit is set.
+/// What a marked value marks.
 #[derive(Clone, Copy)]
-pub struct Target {
-    pub word: u16,
-    pub bits: u16,
-}
-
-impl Target {
-    pub const NONE: Target = Target { word: 0, bits: 0 };
-
-    fn of(node: Option<usize>) -> Self
-        requires { IfSome node (λ n. n < 1048576) }
-        ensures { (i : ℕ) → aims result i ≡ among (listed node) i }
-    {
-        match node {
-            Some(node) => Target {
-                word: (node / 16) as u16,
-                bits: single(node % 16),
-            },
-            None => Target::NONE,
-        }
-    }
+pub enum Fed {
+    Nothing,
+    Instance(Instance),
+    Signal(u8),
 }
 
 /// An edge as it leads from marks to marks.
 #[derive(Clone, Copy)]
 pub struct Flow {
-    /// The word of the location that the edge goes to.
-    pub to: u16,
+    /// The location that it goes to: 16 * process + location.
+    pub to: u8,
     /// The variables and timers that it leaves as they are.
     pub kept: u16,
     /// The variables that its value mentions.
     pub read: u16,
     /// What a marked value marks.
-    pub fed: Target,
-    /// The signal that it names, if it is an input.
-    pub signal: u8,
-    /// What it stores of that signal.
-    pub stored: Target,
+    pub fed: Fed,
+    /// What it stores of a signal.
+    pub stored: Option<Instance>,
 }
 
 impl Flow {
@@ -58,21 +40,20 @@ impl Flow {
         to: 0,
         kept: 0,
         read: 0,
-        fed: Target::NONE,
-        signal: 0,
-        stored: Target::NONE,
+        fed: Fed::Nothing,
+        stored: None,
     };
 
     pub fn of<T: Table>(table: &T, edge: &Edge) -> Self
+        requires { Bounded edge.now }
         ensures { Stands (T.lists table.now) edge.now result }
     {
         Flow {
-            to: word_at_end(edge) as u16,
+            to: site_at_end(edge),
             kept: !touched(edge),
             read: mentioned(table, edge.value),
-            fed: Target::of(fed(table, edge)),
-            signal: edge.first,
-            stored: Target::of(received(edge)),
+            fed: fed(table, edge),
+            stored: received(edge),
         }
     }
 }

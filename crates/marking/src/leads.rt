@@ -1,39 +1,41 @@
-//! Which nodes an edge leads to.
-ghost use Rattle.std.specs.Prelude.{◌≡◌, ℕ, ◌+◌, ◌*◌, ◌<◌, ◌≤◌, IfSome};
-ghost use Rattle.marking.specs.Leads.{received, touches, fed};
+//! Where an edge leads marks.
+ghost use Rattle.std.specs.Prelude.{◌≡◌, ℕ, ◌+◌, ◌*◌, ◌<◌};
+ghost use Rattle.marking.specs.Leads.{Bounded, at_end, received, touches, fed};
 ghost use Rattle.marks.specs.Words.{bit};
 
+use crate::flow::Fed;
+use crate::instance::Instance;
 use crate::word::single;
 use table::questions::{Table, class_of};
 use table::record::{Class, Edge, Kind};
 
-const SIGNALS: usize = 2048;
-
-/// The word of the location that the edge goes to.
-pub fn word_at_end(edge: &Edge) -> usize
-    ensures value { result ≡ 16 * edge.now.process + edge.now.to }
-    ensures bound { result ≤ 4335 }
+/// The location that the edge goes to, by its number among all.
+pub fn site_at_end(edge: &Edge) -> u8
+    requires { Bounded edge.now }
+    ensures { result ≡ 16 * edge.now.process + edge.now.to }
 {
-    16 * usize::from(edge.process) + usize::from(edge.to)
+    16 * edge.process + edge.to
 }
 
-/// That bit of the word of the location that the edge goes to.
-fn node_at_end(edge: &Edge, bit: usize) -> usize
-    requires { bit ≤ 263 }
-    ensures value { result ≡ 16 * (16 * edge.now.process + edge.now.to) + bit }
-    ensures bound { result < 1048576 }
+/// The instance with that index where the edge ends.
+fn at_end(edge: &Edge, index: u8) -> Instance
+    requires { Bounded edge.now }
+    ensures { result ≡ at_end edge.now index }
 {
-    16 * word_at_end(edge) + bit
+    Instance {
+        site: site_at_end(edge),
+        index,
+    }
 }
 
 /// The variable that an input stores.
 #[tactic(auto, unfolding(crate::specs::Leads::received))]
-pub fn received(edge: &Edge) -> Option<usize>
-    ensures value { result ≡ received edge.now }
-    ensures bound { IfSome result (λ n. n < 1048576) }
+pub fn received(edge: &Edge) -> Option<Instance>
+    requires { Bounded edge.now }
+    ensures { result ≡ received edge.now }
 {
     match edge.does() {
-        Kind::Input => edge.stored().map(|v| node_at_end(edge, v.into())),
+        Kind::Input => edge.stored().map(|variable| at_end(edge, variable)),
         _ => None,
     }
 }
@@ -58,16 +60,14 @@ pub fn touched(edge: &Edge) -> u16
 
 /// What a marked value of the edge marks: a variable, a timer or an internal signal.
 #[tactic(auto, unfolding(crate::specs::Leads::fed))]
-pub fn fed<T: Table>(table: &T, edge: &Edge) -> Option<usize>
-    ensures value { result ≡ fed (T.lists table.now) edge.now }
-    ensures bound { IfSome result (λ n. n < 1048576) }
+pub fn fed<T: Table>(table: &T, edge: &Edge) -> Fed
+    requires { Bounded edge.now }
+    ensures { result ≡ fed (T.lists table.now) edge.now }
 {
     match edge.does() {
-        Kind::Assignment => Some(node_at_end(edge, edge.first.into())),
-        Kind::Set => Some(node_at_end(edge, 8 + usize::from(edge.first))),
-        Kind::Output if class_of(table, edge.first) == Class::Internal => {
-            Some(SIGNALS + usize::from(edge.first))
-        }
-        _ => None,
+        Kind::Assignment => Fed::Instance(at_end(edge, edge.first)),
+        Kind::Set => Fed::Instance(at_end(edge, 8 + edge.first)),
+        Kind::Output if class_of(table, edge.first) == Class::Internal => Fed::Signal(edge.first),
+        _ => Fed::Nothing,
     }
 }

@@ -7,12 +7,13 @@ use Rattle.std.specs.Int.{w16}
 use Rattle.std.specs.Int.RustNames.{FitsSigned}
 use Rattle.std.specs.List.{All, list_any}
 use Rattle.reading.specs.Formats.{field, plain}
-use Rattle.reading.specs.Layout.{header_format, timer_of, on_bit, ticks, timer_format, process_format, destination, signal_format, span_format, edge_format, term_format, name_format}
+use Rattle.reading.specs.Layout.{header_format, timer_format, process_format, destination, signal_format, span_format, edge_format, term_format, name_format}
 use Rattle.reading.specs.Spelling.{FitsProcess, FitsTerm, IsName}
 use Rattle.reading.specs.declared.records.Counts.{Counts}
 use Rattle.reading.proofs.Exact.{Exact, within, exact-like, exact-field, exact-bits, exact-plain, exact-signed, exact-done, exact-then, exact-many}
 use Rattle.table.specs.Examination.{too_long, bad_process, bad_signal}
 use Rattle.table.specs.Lists.{Proc}
+use Rattle.table.specs.Records.{timer_of, timer_number, timer_ticks}
 use Rattle.table.specs.declared.record.Signal.{Signal}
 use Rattle.table.specs.declared.record.Timer.{Timer}
 use Rattle.table.specs.declared.record.Timer.TheVariants.{Off, On}
@@ -55,22 +56,22 @@ exact-ticks on = by (eqb on 0) refl
         let z = eqb-false on 0 e in
         exact-like (λ n. (n < 2 ^ 15) × (on ≡ 0 → n ≡ 0)) (λ n f. (f, λ h. absurd (z h))) (λ n g. g.0) (exact-plain 15 (omega arith))
 
-ticks-timer : (on n : ℕ) → (on ≡ 0 → n ≡ 0) → ticks (timer_of on n) ≡ n
-ticks-timer on n h = by (eqb on 0) refl
+timer_ticks-of : (on n : ℕ) → (on ≡ 0 → n ≡ 0) → timer_ticks (timer_of on n) ≡ n
+timer_ticks-of on n h = by (eqb on 0) refl
   where
-    by : (b : Bool) → eqb on 0 ≡ b → ticks (cond b Off (On n)) ≡ n
+    by : (b : Bool) → eqb on 0 ≡ b → timer_ticks (cond b Off (On n)) ≡ n
     by true e = sym (h (eqb-true on 0 e))
     by false e = refl
 
-on_bit-timer : (on n : ℕ) → on < 2 → on_bit (timer_of on n) ≡ on
-on_bit-timer on n h = by (eqb on 0) refl
+timer_number-of : (on n : ℕ) → on < 2 → timer_number (timer_of on n) ≡ on
+timer_number-of on n h = by (eqb on 0) refl
   where
-    by : (b : Bool) → eqb on 0 ≡ b → on_bit (cond b Off (On n)) ≡ on
+    by : (b : Bool) → eqb on 0 ≡ b → timer_number (cond b Off (On n)) ≡ on
     by true e = sym (eqb-true on 0 e)
     by false e = let z = eqb-false on 0 e in omega arith
 
 abbrev ReadTimer : Timer → Type 0
-ReadTimer t = (on_bit t < 2 ^ 1) × (((ticks t < 2 ^ 15) × (on_bit t ≡ 0 → ticks t ≡ 0)) × (t ≡ timer_of (on_bit t) (ticks t)))
+ReadTimer t = (timer_number t < 2 ^ 1) × (((timer_ticks t < 2 ^ 15) × (timer_number t ≡ 0 → timer_ticks t ≡ 0)) × (t ≡ timer_of (timer_number t) (timer_ticks t)))
 
 not_long : (t : Timer) → ReadTimer t → too_long t ≡ false
 not_long Off h = refl
@@ -87,8 +88,8 @@ exact-timer =
     (exact-then (exact-plain 1 (omega arith)) (λ on.
     exact-then (exact-ticks on) (λ n.
     exact-done (timer_of on n))
-    (λ n t f g. ap ticks g ∙ ticks-timer on n f.1))
-    (λ on t f g. ap on_bit g.1 ∙ on_bit-timer on (ticks t) f))
+    (λ n t f g. ap timer_ticks g ∙ timer_ticks-of on n f.1))
+    (λ on t f g. ap timer_number g.1 ∙ timer_number-of on (timer_ticks t) f))
 
 -- the other records
 

@@ -1,6 +1,9 @@
+pub mod Again
+pub mod AtOnce
 pub mod Chains
 pub mod Exact
 pub mod ExactRecords
+pub mod Heads
 pub mod Inverse
 pub mod Loads
 pub mod Naming

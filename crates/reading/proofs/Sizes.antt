@@ -7,13 +7,14 @@ use Rattle.std.proofs.lemmas.List.Concat.{flat_map_single}
 use Rattle.std.proofs.lemmas.List.Sums.{sum_by-cons}
 use Rattle.std.specs.List.{All, flat_map}
 use Rattle.reading.specs.Formats.{Field, Format, bits, fill, field, plain, signed}
-use Rattle.reading.specs.Layout.{Contents, counts_of, header_format, on_bit, ticks, timer_format, process_format, signal_format, span_format, edge_format, term_format, name_format, sheet_format}
+use Rattle.reading.specs.Layout.{Contents, counts_of, header_format, timer_format, process_format, signal_format, span_format, edge_format, term_format, name_format, sheet_format}
 use Rattle.reading.specs.Opening.{process_bits, processes_bits, edges_bit, names_byte}
 use Rattle.reading.specs.Spelling.{AreBytes, FitsProcess, IsSheet, Spells, area_of, ends}
 use Rattle.reading.specs.declared.records.Counts.{Counts}
 use Rattle.reading.proofs.Numbers.{number-byte}
 use Rattle.reading.proofs.Spelled.{ends-above, ends-append, spells-parts}
 use Rattle.table.specs.Lists.{Lists, Proc}
+use Rattle.table.specs.Records.{timer_number, timer_ticks}
 use Rattle.table.specs.declared.record.Edge.{Edge}
 use Rattle.table.specs.declared.record.Signal.{Signal}
 use Rattle.table.specs.declared.record.Term.{Term}
@@ -31,9 +32,9 @@ ends-row f w h q (x ∷ xs) =
 
 ends-timer : (q : ℕ) (t : Timer) → ends q (timer_format.writes t) ≡ q + 16
 unfolding ends timer_format
-ends-timer q t = by (eqb (on_bit t) 0)
+ends-timer q t = by (eqb (timer_number t) 0)
   where
-    by : (b : Bool) → ends (q + 1) ((cond b (field 15 0 0 4) (plain 15)).writes (ticks t) ++ []) ≡ q + 16
+    by : (b : Bool) → ends (q + 1) ((cond b (field 15 0 0 4) (plain 15)).writes (timer_ticks t) ++ []) ≡ q + 16
     by true = omega arith
     by false = omega arith
 

@@ -2,22 +2,21 @@
 -- and the most that it may hold, and the number of its refusal.
 --   counts_of T         how many processes, signals, edges and terms, as the header says it
 --   Contents            what a sheet holds: its table, and its names, those of the processes first
---   timer_of on n       the timer that the two fields give
---   on_bit, ticks       the two fields of a timer
---   header_format, timer_format, process_format, signal_format n (in a sheet of n processes), span_format,
+--   header_format, timer_format, head_format (of a process), process_format, signal_format n (in a sheet of n processes), span_format,
 --   edge_format, term_format, name_format
 --   destination m c     the destination of a signal of class c in a sheet of m processes
 --   sheet_format        the whole sheet
 use Rattle.std.specs.Prelude.{ℕ, ◌+◌, ◌-◌, cond, List, length, ◌==◌, nat_le}
 use Rattle.reading.specs.Formats.{Format, field, plain, signed, then, done, many, filled, ended}
 use Rattle.reading.specs.declared.records.Counts.{Counts}
+use Rattle.reading.specs.declared.records.Head.{Head}
 use Rattle.table.specs.Lists.{Lists, Proc}
+use Rattle.table.specs.Records.{timer_of, timer_number, timer_ticks}
 use Rattle.table.specs.declared.record.Edge.{Edge}
 use Rattle.table.specs.declared.record.Signal.{Signal}
 use Rattle.table.specs.declared.record.Span.{Span}
 use Rattle.table.specs.declared.record.Term.{Term}
 use Rattle.table.specs.declared.record.Timer.{Timer}
-use Rattle.table.specs.declared.record.Timer.TheVariants.{Off, On}
 
 pub record Contents : Type 0 where
   pub lists : Lists
@@ -31,17 +30,6 @@ counts_of T = record {
   terms = length T.terms;
 }
 
-abbrev pub timer_of : ℕ → ℕ → Timer
-timer_of on n = cond (on == 0) Off (On n)
-
-abbrev pub on_bit : Timer → ℕ
-on_bit Off = 0
-on_bit (On n) = 1
-
-abbrev pub ticks : Timer → ℕ
-ticks Off = 0
-ticks (On n) = n
-
 unfoldable pub header_format : Format Counts
 header_format =
     then (field 8 1 1 2) (λ _. 1) (λ _.
@@ -54,9 +42,18 @@ header_format =
 -- a timer that is off has the number 0
 unfoldable pub timer_format : Format Timer
 timer_format =
-    then (plain 1) on_bit (λ on.
-    then (cond (on == 0) (field 15 0 0 4) (plain 15)) ticks (λ n.
+    then (plain 1) timer_number (λ on.
+    then (cond (on == 0) (field 15 0 0 4) (plain 15)) timer_ticks (λ n.
     done (timer_of on n)))
+
+-- the first four fields of a process
+unfoldable pub head_format : Format Head
+head_format =
+    then (plain 4) (λ h. h.last) (λ last.
+    then (field 4 0 8 3) (λ h. h.variables) (λ variables.
+    then (field 4 0 8 3) (λ h. h.timers) (λ timers.
+    then (field 4 0 last 3) (λ h. h.first) (λ first.
+    done (record { last = last; variables = variables; timers = timers; first = first })))))
 
 unfoldable pub process_format : Format Proc
 process_format =

@@ -8,10 +8,11 @@
 --   placed a ts        the names ts with the bytes at which their characters begin, the first length byte being byte a
 --   Opened             an opened sheet: its table, and the names of its processes and of its signals, each with its place
 --   split T names      the names of the processes come first
+--   names_in o         its names, those of its processes first
 --   unless o x         x, but for a refusal o
 --   judged a           what a reading of the whole sheet comes to once the edges have been looked at
 --   opened bs          what the sheet bs holds, or its refusal: by the earliest bit, and if all bits are good by the lowest edge
-use Rattle.std.specs.Prelude.{ℕ, ◌+◌, ◌*◌, ◌/◌, List, [], ◌∷◌, length, take, drop, Some, None, Ok, Err, Option, Result}
+use Rattle.std.specs.Prelude.{ℕ, ◌+◌, ◌*◌, ◌/◌, List, [], ◌∷◌, ◌++◌, map, length, take, drop, Some, None, Ok, Err, Option, Result}
 use Rattle.std.specs.List.{sum_by}
 use Rattle.std.specs.Option.{option_map}
 use Rattle.reading.specs.Formats.{Answer, got, bad}
@@ -58,6 +59,9 @@ split T names = record {
   process_names = take (length T.processes) names;
   signal_names = drop (length T.processes) names;
 }
+
+abbrev pub names_in : Opened → List (List ℕ)
+names_in o = map (λ n. n.1) (o.process_names ++ o.signal_names)
 
 abbrev pub unless : {A : Type 0} → Option Refusal → A → Result A Refusal
 unless None x = Ok x

@@ -1,16 +1,22 @@
 -- What lies at given places of a sheet's bytes.
---   no_edge, no_term    what is read where the bytes end too soon; an opened sheet has no such place
+--   no_edge, no_term    what is read where the bytes end too soon, as a blank process and an absent signal are; an opened sheet has no
+--                       such place
 --   text_at bs a        the characters of the name whose length byte is byte a of bs
 --   next_name bs a      the byte behind that name
 --   name_start bs a k   the length byte of the k-th name from byte a on
 --   texts_at bs a n     n names from byte a on
 --   named_at bs a n     the same with their places
+--   processes_at bs ps  the processes whose records begin at the bits ps
+--   signals_from bs p m n   the n signals, in a sheet of m processes, from bit p on
 --   edges_from bs p n, terms_from bs p n   the n records from bit p on
 use Rattle.std.specs.Prelude.{ℕ, zero, suc, ◌+◌, List, map, take, drop, pos, slice_index}
 use Rattle.std.specs.List.{range_with_len}
-use Rattle.reading.specs.Layout.{edge_format, term_format}
-use Rattle.reading.specs.Readings.{row_at}
+use Rattle.reading.specs.Layout.{process_format, signal_format, edge_format, term_format}
+use Rattle.reading.specs.Readings.{read_at, row_at}
+use Rattle.table.specs.Edges.{absent, blank}
+use Rattle.table.specs.Lists.{Proc}
 use Rattle.table.specs.declared.record.Edge.{Edge}
+use Rattle.table.specs.declared.record.Signal.{Signal}
 use Rattle.table.specs.declared.record.Term.{Term}
 
 abbrev pub no_edge : Edge
@@ -44,6 +50,12 @@ texts_at bs a n = map (λ k. text_at bs (name_start bs a k)) (range_with_len 0 n
 
 abbrev pub named_at : List ℕ → ℕ → ℕ → List (ℕ × List ℕ)
 named_at bs a n = map (λ k. (name_start bs a k + 1, text_at bs (name_start bs a k))) (range_with_len 0 n)
+
+abbrev pub processes_at : List ℕ → List ℕ → List Proc
+processes_at bs ps = map (λ p. read_at process_format blank bs p) ps
+
+abbrev pub signals_from : List ℕ → ℕ → ℕ → ℕ → List Signal
+signals_from bs p processes n = row_at (signal_format processes) absent bs p 6 n
 
 abbrev pub edges_from : List ℕ → ℕ → ℕ → List Edge
 edges_from bs p n = row_at edge_format no_edge bs p 60 n

@@ -9,14 +9,16 @@
 --   IsName t          1 to 15 characters, each from 33 to 126
 --   IsWritable c      the table has a process, breaks none of 3 and 7 to 10, and has a name for each process and signal
 --   IsSheet c bs      bs is the sheet of the contents c: nothing but the fields that the layout writes for c
+--   IsTheSheet c bs   it is the sheet of c, and no other bytes are
 --   meaning c         what opening answers of a sheet of c
+--   held o            what opened, as the contents of a sheet
 --   Inverse bs        bs opens to o exactly if it is the sheet of some contents that mean o
 use Rattle.std.specs.Prelude.{◌≡◌, ℕ, ◌+◌, ◌-◌, ◌*◌, ◌%◌, ◌<◌, ◌≤◌, List, [], ◌∷◌, length, Ok, None, FitsSigned, slice_index}
 use Rattle.std.specs.Int.{w16}
 use Rattle.std.specs.List.{All, flat_map}
 use Rattle.reading.specs.Formats.{Field, bits, fill, number}
 use Rattle.reading.specs.Layout.{Contents, sheet_format}
-use Rattle.reading.specs.Opening.{Opened, names_byte, opened, placed, split}
+use Rattle.reading.specs.Opening.{Opened, names_byte, names_in, opened, placed, split}
 use Rattle.table.specs.Examination.{edges_refused, limits_refused}
 use Rattle.table.specs.Lists.{Lists, Proc}
 use Rattle.table.specs.declared.record.Term.{Term}
@@ -74,8 +76,15 @@ pub record IsSheet (c : Contents) (bs : List ℕ) : Type 0 where
   pub size : 8 * length bs ≡ ends 0 (sheet_format.writes c)
   pub fields : Spells bs 0 (sheet_format.writes c)
 
+pub record IsTheSheet (c : Contents) (bs : List ℕ) : Type 0 where
+  pub sheet : IsSheet c bs
+  pub sole : (cs : List ℕ) → AreBytes cs → IsSheet c cs → cs ≡ bs
+
 abbrev pub meaning : Contents → Opened
 meaning c = split c.lists (placed (names_byte c.lists) c.names)
+
+abbrev pub held : Opened → Contents
+held o = record { lists = o.lists; names = names_in o }
 
 pub record Inverse (bs : List ℕ) : Type 0 where
   pub opens : (c : Contents) → IsSheet c bs → opened bs ≡ Ok (meaning c)

@@ -1,12 +1,14 @@
-//! Reading an edge's 60 bits, or a term's 20, at once.
+//! What lies at a bit: a record read where it is, an edge's 60 bits and a term's 20 at once.
 ghost use Rattle.std.specs.Prelude.{◌≡◌, ◌+◌, ◌-◌, ◌*◌, ◌/◌, ◌%◌, ◌^◌, ◌<◌, ◌≤◌, length, IfSome};
 ghost use Rattle.reading.specs.Formats.{number};
-ghost use Rattle.reading.specs.Layout.{edge_format, term_format};
+ghost use Rattle.reading.specs.Layout.{process_format, signal_format, edge_format, term_format};
 ghost use Rattle.reading.specs.Readings.{Room, read_at};
 ghost use Rattle.reading.specs.Rows.{no_edge, no_term};
+ghost use Rattle.table.specs.Edges.{absent, blank};
+ghost use Rattle.table.specs.Lists.{meant};
 
 use crate::reader::Reader;
-use table::record::{Edge, Span, Term};
+use table::record::{Edge, Process, Signal, Span, Term};
 
 /// The field of `width` bits at bit `at` of an edge's 60.
 fn part(word: u64, at: u32, width: u32) -> u16
@@ -41,6 +43,26 @@ impl<'a> Reader<'a> {
         let &[a, b, c, d] = self.bytes.get(i..i + 4)?.first_chunk::<4>()?;
         let window = u32::from_be_bytes([a, b, c, d]);
         Some((window >> (12 - self.place % 8)) & ((1 << 20) - 1))
+    }
+
+    /// The process that lies here, or a blank one where none can be read.
+    pub fn process_here(&self) -> Process
+        requires { Room self.now 272 }
+        ensures { meant result ≡ read_at process_format blank self.now.bytes.now self.now.place }
+    {
+        Reader::at(self.bytes, self.place)
+            .process()
+            .unwrap_or(Process::BLANK)
+    }
+
+    /// The signal that lies here, in a sheet of so many processes, or an absent one where none can be read.
+    pub fn signal_here(&self, processes: u8) -> Signal
+        requires { Room self.now 6 }
+        ensures { result ≡ read_at (signal_format processes) absent self.now.bytes.now self.now.place }
+    {
+        Reader::at(self.bytes, self.place)
+            .signal(processes)
+            .unwrap_or(Signal::ABSENT)
     }
 
     /// The term that lies here, or a term of zeros where the bytes end too soon.

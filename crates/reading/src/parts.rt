@@ -1,55 +1,45 @@
 //! The parts of a sheet: rows of records, the fill and the end.
 ghost use Rattle.std.specs.Prelude.{◌≡◌, ℕ, ◌+◌, ◌-◌, ◌*◌, ◌/◌, ◌%◌, ◌^◌, ◌<◌, ◌≤◌, length, take, drop, IfOk, OnOk, map, slice_index};
-ghost use Rattle.table.specs.Lists.{meant};
 ghost use Rattle.reading.specs.Formats.{Format, field, many, filled, ended};
 ghost use Rattle.reading.specs.Layout.{process_format, signal_format, edge_format, term_format, name_format};
 ghost use Rattle.reading.specs.Opening.{processes_bits, placed};
 ghost use Rattle.reading.specs.Readings.{Room, Reads, Moves, Steps, Walks};
-ghost use Rattle.reading.specs.Rows.{edges_from, terms_from, text_at, texts_at, named_at, next_name};
+ghost use Rattle.reading.specs.Rows.{processes_at, signals_from, edges_from, terms_from, text_at, texts_at, named_at, next_name};
 
 use crate::fault::SheetFault;
 use crate::reader::Reader;
 use crate::records::{EDGE_BITS, TERM_BITS};
 use table::limits;
-use table::record::{Process, Signal};
 
 const LONGEST_NAME: u8 = 15;
 
 impl<'a> Reader<'a> {
-    /// So many processes, into the first places.
+    /// So many processes. The bits at which they begin go into the first places.
     pub fn processes(
         &mut self,
         count: u8,
-        places: &mut [Process; limits::PROCESSES],
+        places: &mut [u32; limits::PROCESSES],
     ) -> Result<(), SheetFault>
         requires count { count ≤ 8 }
         requires place { self.old.place + 272 * count < 2 ^ 32 }
-        ensures reads { Reads (many count process_format).reads (λ _. map meant (take count places.new)) self.old result self.new }
-        ensures size { OnOk result (self.new.place ≡ self.old.place + processes_bits (map meant (take count places.new))) }
+        ensures reads { Reads (many count process_format).reads (λ _. processes_at self.old.bytes.now (take count places.new)) self.old result self.new }
+        ensures size { OnOk result (self.new.place ≡ self.old.place + processes_bits (processes_at self.old.bytes.now (take count places.new))) }
         ensures bound { self.new.place ≤ self.old.place + 272 * count }
     {
         for place in places[..usize::from(count)].iter_mut() {
-            *place = self.process()?;
+            *place = self.place as u32;
+            self.process()?;
         }
         Ok(())
     }
 
-    /// So many signals of a sheet with so many processes, into the first places.
-    pub fn signals(
-        &mut self,
-        count: u8,
-        processes: u8,
-        places: &mut [Signal; limits::SIGNALS],
-    ) -> Result<(), SheetFault>
-        requires count { count ≤ 64 }
-        requires room { Room self.old (64 * count) }
-        ensures reads { Reads (many count (signal_format processes)).reads (λ _. take count places.new) self.old result self.new }
+    /// So many signals of a sheet with so many processes.
+    pub fn signals(&mut self, count: u8, processes: u8) -> Result<(), SheetFault>
+        requires { Room self.old (64 * count) }
+        ensures reads { Reads (many count (signal_format processes)).reads (λ _. signals_from self.old.bytes.now self.old.place processes count) self.old result self.new }
         ensures moves { Moves result self.old.place (6 * count) self.new.place }
     {
-        for place in places[..usize::from(count)].iter_mut() {
-            *place = self.signal(processes)?;
-        }
-        Ok(())
+        self.row(usize::from(count), |reader| reader.signal(processes))
     }
 
     /// So many records, of at most 64 bits each, one behind the other.

@@ -1,5 +1,5 @@
 //! Reading fields from bytes, most significant bit first.
-ghost use Rattle.std.specs.Prelude.{◌≡◌, ℕ, ◌+◌, ◌*◌, ◌/◌, ◌^◌, ◌<◌, ◌≤◌, length, IfOk, nat_le, slice_index};
+ghost use Rattle.std.specs.Prelude.{◌≡◌, ℕ, ◌+◌, ◌*◌, ◌/◌, ◌^◌, ◌<◌, ◌≤◌, length, IfOk, IfSome, nat_le, slice_index};
 ghost use Rattle.refusal.specs.declared.fault.Place.{Place};
 ghost use Rattle.reading.specs.Formats.{number, field, plain, taken};
 ghost use Rattle.reading.specs.Faults.{sheet_refusal};
@@ -29,11 +29,24 @@ impl<'a> Reader<'a> {
         self.bytes.get(i).copied().unwrap_or(0)
     }
 
+    /// The window by one load, if there is a fourth byte.
+    fn loaded_window(&self) -> Option<u32>
+        ensures value { IfSome result (λ w. w ≡ window self.now.bytes.now self.now.place) }
+        ensures bytes { IfSome result (λ w. (k : ℕ) → k < 3 → slice_index self.now.bytes.now (self.now.place / 8 + k) < 256) }
+    {
+        let i = self.place / 8;
+        let &[a, b, c, d] = self.bytes.get(i..i + 4)?.first_chunk::<4>()?;
+        Some(u32::from_be_bytes([a, b, c, d]) >> 8)
+    }
+
     /// Three bytes as a number, from that of the next bit on. They hold any 16 bits from there.
     pub fn window(&self) -> u32
         ensures value { result ≡ window self.now.bytes.now self.now.place }
         ensures bytes { (k : ℕ) → k < 3 → slice_index self.now.bytes.now (self.now.place / 8 + k) < 256 }
     {
+        if let Some(window) = self.loaded_window() {
+            return window;
+        }
         let first = self.place / 8;
         u32::from_be_bytes([
             0,
@@ -44,7 +57,7 @@ impl<'a> Reader<'a> {
     }
 
     /// The next `width` bits as a number, those past the end as zeros.
-    fn peek(&self, width: usize) -> u16
+    pub(crate) fn peek(&self, width: usize) -> u16
         requires { width ≤ 16 }
         ensures value { result ≡ number self.now.bytes.now self.now.place width }
         ensures bound { result < 2 ^ width }

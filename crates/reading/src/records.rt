@@ -1,8 +1,8 @@
 //! The records of a sheet, each read field by field up to its first fault.
-ghost use Rattle.std.specs.Prelude.{◌≡◌, ◌+◌, ◌*◌, ◌<◌, ◌≤◌, length, take, IfOk};
+ghost use Rattle.std.specs.Prelude.{◌≡◌, ◌+◌, ◌*◌, ◌<◌, ◌≤◌, length, take, IfOk, IfSome};
 ghost use Rattle.table.specs.Lists.{meant};
-ghost use Rattle.reading.specs.Formats.{Format, many, signed};
-ghost use Rattle.reading.specs.Layout.{header_format, signal_format, span_format, edge_format, term_format, timer_format, process_format};
+ghost use Rattle.reading.specs.Formats.{Format, got, many, signed};
+ghost use Rattle.reading.specs.Layout.{head_format, header_format, signal_format, span_format, edge_format, term_format, timer_format, process_format};
 ghost use Rattle.reading.specs.Opening.{process_bits};
 ghost use Rattle.reading.specs.Readings.{Room, Reads, Moves};
 
@@ -19,6 +19,9 @@ pub const EDGE_BITS: usize = 60;
 
 pub const TERM_BITS: usize = 20;
 
+/// The bit of a timer that is on.
+const TIMER_ON: u16 = 1 << 15;
+
 /// The counts of a sheet's header.
 #[derive(Clone, Copy, Debug, PartialEq, Eq)]
 pub struct Counts {
@@ -26,6 +29,15 @@ pub struct Counts {
     pub signals: u8,
     pub edges: u16,
     pub terms: u16,
+}
+
+/// What a process's record begins with: the number of its last location, how many variables and timers it has, and where it starts.
+#[derive(Clone, Copy)]
+struct Head {
+    last: u8,
+    variables: u8,
+    timers: u8,
+    first: u8,
 }
 
 impl<'a> Reader<'a> {
@@ -49,6 +61,27 @@ impl<'a> Reader<'a> {
         })
     }
 
+    /// The signal of the next six bits, if they are there and nothing is wrong with them.
+    fn whole_signal(&self, processes: u8) -> Option<Signal>
+        requires { Room self.now 6 }
+        ensures { IfSome result (λ s. (signal_format processes).reads self.now.bytes.now self.now.place ≡ got s (self.now.place + 6)) }
+    {
+        if !self.has(SIGNAL_BITS) {
+            return None;
+        }
+        let word = self.peek(SIGNAL_BITS) as u8;
+        let (class, destination) = (word / 8, word % 8);
+        let most = if class <= Class::Inbound as u8 {
+            processes.saturating_sub(1)
+        } else {
+            0
+        };
+        if class > Class::Absent as u8 || destination > most {
+            return None;
+        }
+        Some(Signal { class, destination })
+    }
+
     /// A signal of a sheet with so many processes.
     #[tactic(auto, unfolding(crate::specs::Formats::after, crate::specs::Layout::signal_format))]
     pub fn signal(&mut self, processes: u8) -> Result<Signal, SheetFault>
@@ -56,6 +89,10 @@ impl<'a> Reader<'a> {
         ensures reads { Reads (signal_format processes).reads (λ s. s) self.old result self.new }
         ensures moves { Moves result self.old.place 6 self.new.place }
     {
+        if let Some(signal) = self.whole_signal(processes) {
+            self.place += SIGNAL_BITS;
+            return Ok(signal);
+        }
         let class = self.limited(3, 0, Class::Absent as u16)? as u8;
         let destination = if matches!(Class::from(class), Class::Internal | Class::Inbound) {
             self.limited(3, 0, u16::from(processes).saturating_sub(1))? as u8
@@ -129,12 +166,34 @@ impl<'a> Reader<'a> {
         })
     }
 
+    /// The timer of the next 16 bits, if they are there and nothing is wrong with them.
+    fn whole_timer(&self) -> Option<Timer>
+        requires { Room self.now 16 }
+        ensures { IfSome result (λ t. timer_format.reads self.now.bytes.now self.now.place ≡ got t (self.now.place + 16)) }
+    {
+        if !self.has(16) {
+            return None;
+        }
+        let word = self.peek(16);
+        if word == 0 {
+            return Some(Timer::Off);
+        }
+        if word < TIMER_ON {
+            return None;
+        }
+        Some(Timer::On(word - TIMER_ON))
+    }
+
     #[tactic(auto, unfolding(crate::specs::Formats::after, crate::specs::Layout::timer_format))]
     fn timer(&mut self) -> Result<Timer, SheetFault>
         requires { Room self.old 16 }
         ensures reads { Reads timer_format.reads (λ t. t) self.old result self.new }
         ensures moves { Moves result self.old.place 16 self.new.place }
     {
+        if let Some(timer) = self.whole_timer() {
+            self.place += 16;
+            return Ok(timer);
+        }
         if self.take(1)? == 0 {
             self.zeros(15)?;
             Ok(Timer::Off)
@@ -163,26 +222,70 @@ impl<'a> Reader<'a> {
         Ok(())
     }
 
-    #[tactic(auto, unfolding(crate::specs::Formats::after, crate::specs::Layout::process_format))]
+    /// The head of the next 16 bits, if they are there and nothing is wrong with it.
+    fn whole_head(&self) -> Option<Head>
+        requires { Room self.now 16 }
+        ensures reads { IfSome result (λ h. head_format.reads self.now.bytes.now self.now.place ≡ got h (self.now.place + 16)) }
+        ensures fits { IfSome result (λ h. (h.last ≤ 15) × (h.variables ≤ 8) × (h.timers ≤ 8)) }
+    {
+        if !self.has(16) {
+            return None;
+        }
+        let word = self.peek(16);
+        let head = Head {
+            last: (word / 4096) as u8,
+            variables: (word / 256 % 16) as u8,
+            timers: (word / 16 % 16) as u8,
+            first: (word % 16) as u8,
+        };
+        if head.variables > limits::VARIABLES || head.timers > limits::TIMERS {
+            return None;
+        }
+        if head.first > head.last {
+            return None;
+        }
+        Some(head)
+    }
+
+    #[tactic(auto, unfolding(crate::specs::Formats::after, crate::specs::Layout::head_format))]
+    fn head(&mut self) -> Result<Head, SheetFault>
+        requires { Room self.old 16 }
+        ensures reads { Reads head_format.reads (λ h. h) self.old result self.new }
+        ensures fits { IfOk result (λ h. (h.last ≤ 15) × (h.variables ≤ 8) × (h.timers ≤ 8)) }
+        ensures moves { Moves result self.old.place 16 self.new.place }
+    {
+        if let Some(head) = self.whole_head() {
+            self.place += 16;
+            return Ok(head);
+        }
+        let last = self.take(4)?;
+        let variables = self.limited(4, 0, limits::VARIABLES as u16)? as u8;
+        let timers = self.limited(4, 0, limits::TIMERS as u16)? as u8;
+        let first = self.limited(4, 0, last)? as u8;
+        Ok(Head {
+            last: last as u8,
+            variables,
+            timers,
+            first,
+        })
+    }
+
     pub fn process(&mut self) -> Result<Process, SheetFault>
         requires { Room self.old 272 }
         ensures reads { Reads process_format.reads meant self.old result self.new }
         ensures size { IfOk result (λ p. self.new.place ≡ self.old.place + process_bits (meant p)) }
         ensures bound { self.new.place ≤ self.old.place + 272 }
     {
-        let last = self.take(4)?;
-        let variables = self.limited(4, 0, limits::VARIABLES as u16)? as u8;
-        let timers = self.limited(4, 0, limits::TIMERS as u16)? as u8;
-        let first = self.limited(4, 0, last)? as u8;
+        let head = self.head()?;
         let mut values = [0; 8];
-        self.read_first(variables, &mut values, Reader::integer)?;
+        self.read_first(head.variables, &mut values, Reader::integer)?;
         let mut settings = [Timer::Off; 8];
-        self.read_first(timers, &mut settings, Reader::timer)?;
+        self.read_first(head.timers, &mut settings, Reader::timer)?;
         Ok(Process {
-            locations: last as u8 + 1,
-            first,
-            variables,
-            timers,
+            locations: head.last + 1,
+            first: head.first,
+            variables: head.variables,
+            timers: head.timers,
             values,
             settings,
         })

@@ -78,15 +78,16 @@ impl Ring {
         Ok(())
     }
 
-    /// Takes out the first of the items held.
-    pub fn remove<T: Copy>(&mut self, places: &[T]) -> Option<T>
-        ensures value { result ≡ slice_get (held self.old places.now) 0 }
-        ensures test { is_some result ≡ (fits self.old (length places.now) && nat_lt 0 self.old.len) }
-        ensures items { held self.new places.now ≡ drop 1 (held self.old places.now) }
-        ensures cases { MatchOption result (held self.old places.now ≡ []) (λ x. held self.old places.now ≡ x ∷ held self.new places.now) }
+    /// Takes out the first of the items held. It is lent the places as `append` is, and leaves them as they were.
+    pub fn remove<T: Copy>(&mut self, places: &mut [T]) -> Option<T>
+        ensures value { result ≡ slice_get (held self.old places.old) 0 }
+        ensures test { is_some result ≡ (fits self.old (length places.old) && nat_lt 0 self.old.len) }
+        ensures items { held self.new places.new ≡ drop 1 (held self.old places.old) }
+        ensures cases { MatchOption result (held self.old places.old ≡ []) (λ x. held self.old places.old ≡ x ∷ held self.new places.new) }
         ensures len { self.new.len ≡ (if is_some result then self.old.len - 1 else self.old.len) }
-        ensures fit { fits self.new (length places.now) ≡ fits self.old (length places.now) }
-        ensures after { self.new ≡ (if is_some result then shorter self.old (length places.now) else self.old) }
+        ensures fit { fits self.new (length places.old) ≡ fits self.old (length places.old) }
+        ensures after { self.new ≡ (if is_some result then shorter self.old (length places.old) else self.old) }
+        ensures places { places.new ≡ places.old }
     {
         let first = self.front(places)?;
         let next = self.head + 1;

@@ -4,52 +4,53 @@ use Rattle.std.proofs.lemmas.Bool.{and_parts, eqb-true}
 use Rattle.std.proofs.lemmas.List.Elements.{All-from_recursion}
 use Rattle.std.proofs.lemmas.List.Folds.{Any-from_list_any}
 use Rattle.std.proofs.lemmas.Option.{slice_get_within, get_or_from_slice_get}
-use Rattle.std.specs.List.{All, AllByRecursion}
+use Rattle.std.specs.List.{AllByRecursion}
 use Rattle.marks.specs.Rules.{Marking, EdgeObeys, Obeys, Within, Least, marked, signal_marked, indices}
 use Rattle.rules.specs.Gate.{Instance, is_at, among, gate_variables, gate_timers, gate_marks}
 use Rattle.rules.specs.Steps.{edge_at}
 use Rattle.table.specs.Gate.{gate_table}
+use Rattle.table.specs.Lists.{Lists}
 use Rattle.table.specs.Records.{kind_of}
 use Rattle.table.specs.declared.record.Edge.{Edge}
 use Rattle.table.specs.declared.record.Kind.{Kind}
 use Rattle.table.specs.declared.record.Kind.TheVariants.{Input, Output, Assignment, Set, Reset, Timeout, Rearm, Skip, Unknown}
 
--- what an edge asks of the marks at its end, beside those at its beginning
-abbrev Asked : Marking → Edge → Kind → Type 0
-Asked M e Input = M.variable e.process e.to e.second ≡ true
-Asked M e Output = Unit {0}
-Asked M e Assignment = M.variable e.process e.to e.first ≡ true
-Asked M e Set = marked gate_table M e e.value ≡ true → M.timer e.process e.to e.first ≡ true
-Asked M e Reset = Unit {0}
-Asked M e Timeout = Unit {0}
-Asked M e Rearm = Unit {0}
-Asked M e Skip = Unit {0}
-Asked M e Unknown = Unit {0}
+-- of a table T that is like the worked example: what an edge asks of the marks at its end, beside those at its beginning
+abbrev pub Asked : Lists → Marking → Edge → Kind → Type 0
+Asked T M e Input = M.variable e.process e.to e.second ≡ true
+Asked T M e Output = Unit {0}
+Asked T M e Assignment = M.variable e.process e.to e.first ≡ true
+Asked T M e Set = marked T M e e.value ≡ true → M.timer e.process e.to e.first ≡ true
+Asked T M e Reset = Unit {0}
+Asked T M e Timeout = Unit {0}
+Asked T M e Rearm = Unit {0}
+Asked T M e Skip = Unit {0}
+Asked T M e Unknown = Unit {0}
 
 -- the marks at both ends are the same, and have what the edge asks
-abbrev Even : Marking → Edge → Type 0
-Even M e =
-    (M.variable e.process e.from ≡ M.variable e.process e.to) × (M.timer e.process e.from ≡ M.timer e.process e.to) × Asked M e (kind_of e.kind)
+abbrev pub Even : Lists → Marking → Edge → Type 0
+Even T M e =
+    (M.variable e.process e.from ≡ M.variable e.process e.to) × (M.timer e.process e.from ≡ M.timer e.process e.to) × Asked T M e (kind_of e.kind)
 
-even-obeys : (M : Marking) (e : Edge) → Even M e → EdgeObeys gate_table M e
-even-obeys M e h = record {
-  received = λ q a n. subst (Asked M e) q h.2;
-  assigned = λ q m. subst (Asked M e) q h.2;
-  timed = λ q. subst (Asked M e) q h.2;
+even-obeys : (T : Lists) (M : Marking) (e : Edge) → Even T M e → EdgeObeys T M e
+even-obeys T M e h = record {
+  received = λ q a n. subst (Asked T M e) q h.2;
+  assigned = λ q m. subst (Asked T M e) q h.2;
+  timed = λ q. subst (Asked T M e) q h.2;
   variables = λ v s m. sym (ap (λ f. f v) h.0) ∙ m;
   timers = λ n s m. sym (ap (λ f. f n) h.1) ∙ m;
 }
 
-all-even : All (Even gate_marks) gate_table.edges
-unfolding gate_table gate_marks marked indices
-all-even =
-    All-from_recursion (Even gate_marks) gate_table.edges
-    ((refl, refl, refl), ((refl, refl, tt), ((refl, refl, λ m. cc), ((refl, refl, tt), ((refl, refl, refl), ((refl, refl, λ m. refl), ((refl, refl, tt), tt)))))))
+pub all-obey : (T : Lists) (M : Marking) → AllByRecursion (Even T M) T.edges → Obeys T M
+all-obey T M a k e h =
+    subst (EdgeObeys T M) (get_or_from_slice_get T.edges k e e h)
+    (even-obeys T M _ (All-from_recursion (Even T M) T.edges a k e (slice_get_within T.edges k e h)))
 
 gate-obeys : Obeys gate_table gate_marks
-gate-obeys k e h =
-    subst (EdgeObeys gate_table gate_marks) (get_or_from_slice_get gate_table.edges k e e h)
-    (even-obeys gate_marks _ (all-even k e (slice_get_within gate_table.edges k e h)))
+unfolding gate_table gate_marks marked indices
+gate-obeys =
+    all-obey gate_table gate_marks
+    ((refl, refl, refl), ((refl, refl, tt), ((refl, refl, λ m. cc), ((refl, refl, tt), ((refl, refl, refl), ((refl, refl, λ m. refl), ((refl, refl, tt), tt)))))))
 
 found-at : (p l n : ℕ) (i : Instance) → is_at p l n i ≡ true → i ≡ (p, l, n)
 found-at p l n (q, m, k) e =
@@ -61,7 +62,7 @@ found-at p l n (q, m, k) e =
     cc
 
 -- what holds of some instances holds of each that is among them
-among-all : (P : ℕ → ℕ → ℕ → Type 0) (is : List Instance) → AllByRecursion (λ i. P i.0 i.1 i.2) is → (p l n : ℕ) → among is p l n ≡ true → P p l n
+pub among-all : (P : ℕ → ℕ → ℕ → Type 0) (is : List Instance) → AllByRecursion (λ i. P i.0 i.1 i.2) is → (p l n : ℕ) → among is p l n ≡ true → P p l n
 among-all P is h p l n e =
     let x = Any-from_list_any (is_at p l n) is e in
     subst (λ i. P i.0 i.1 i.2) (x.3 ∙ found-at p l n x.1 x.4) (All-from_recursion (λ i. P i.0 i.1 i.2) is h x.0 x.1 x.2)

@@ -3,7 +3,7 @@ mod Calls
 pub mod Closed
 pub mod Examined
 pub mod Fates
-mod Gate
+pub mod Gate
 mod Guards
 pub mod Lists
 mod Moves

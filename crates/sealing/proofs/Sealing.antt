@@ -1,41 +1,31 @@
 -- From what opening, the test, closing and writing promise to what sealing does.
-use Rattle.std.proofs.Common.{◌≡◌, ℕ, true, false, inl, inr, ◌+◌, List, [], ◌∷◌, map, length, drop, IfOk, IfErr, IfSome, is_ok, Some, None, Ok, Err, Option, Result, sym, refl, ap, ◌∙◌, subst}
-use Rattle.std.proofs.lemmas.List.{take-append-drop}
+use Rattle.std.proofs.Common.{◌≡◌, ℕ, true, false, inl, inr, List, drop, IfOk, IfErr, IfSome, is_ok, Some, None, Ok, Err, Option, Result, sym, refl, ap, ◌∙◌, subst}
 use Rattle.std.specs.Option.{option_or}
 use Rattle.std.proofs.lemmas.Bool.{both_ways}
 use Rattle.marks.proofs.Unique.{least-unique}
 use Rattle.marks.specs.Rules.{Marking}
+use Rattle.reading.proofs.Again.{names-meaning}
 use Rattle.reading.proofs.Sizes.{sheet-names}
-use Rattle.reading.specs.Layout.{Contents}
-use Rattle.reading.specs.Opening.{Opened, names_byte, opened, placed}
-use Rattle.reading.specs.Spelling.{AreBytes, Inverse, IsSheet, area_of, meaning}
+use Rattle.reading.specs.Opening.{Opened, names_byte, names_in, opened}
+use Rattle.reading.specs.Spelling.{AreBytes, Inverse, IsSheet, IsWritable, area_of}
 use Rattle.refusal.specs.declared.fault.Refusal.{Refusal}
-use Rattle.rules.proofs.Promised.{closed-measured}
-use Rattle.rules.specs.Closing.{closed_by, closed_count, count_refused, test_refused, timers_refused}
+use Rattle.rules.specs.Closing.{closed, closed_count, count_refused, test_refused, timers_refused}
 use Rattle.rules.proofs.Examined.{table-passes}
-use Rattle.rules.specs.Promise.{Measured}
+use Rattle.rules.specs.Promise.{ClosedBy, Measured}
 use Rattle.rules.specs.Steps.{answer}
 use Rattle.table.proofs.Passing.{none-some}
 use Rattle.table.specs.Examination.{examined}
-use Rattle.sealing.specs.Seals.{RefusedAs, SealedAs, UnwrittenAs, names_in}
+use Rattle.sealing.specs.Seals.{RefusedAs, SealedAs}
+use Rattle.sealing.proofs.Writable.{closed-writable}
 use Rattle.sheet.specs.Views.{lists_of, opened_of}
 use Rattle.sheet.specs.declared.view.Sheet.{Sheet}
 use Rattle.table.specs.Lists.{Lists}
 use Rattle.writing.proofs.Sole.{area-same}
-use Rattle.writing.specs.Written.{IsWrittenAs, write_refused}
+use Rattle.writing.specs.Written.{IsWrittenAs}
 
-texts-placed : (a : ℕ) (ts : List (List ℕ)) → map (λ n. n.1) (placed a ts) ≡ ts
-unfolding placed
-texts-placed a [] = refl
-texts-placed a (t ∷ ts) = ap (λ xs. t ∷ xs) (texts-placed (a + 1 + length t) ts)
-
-names-meaning : (c : Contents) → names_in (meaning c) ≡ c.names
-names-meaning c =
-    ap (map (λ n. n.1)) (take-append-drop (length c.lists.processes) (placed (names_byte c.lists) c.names)) ∙ texts-placed (names_byte c.lists) c.names
-
-module _ (bs area : List ℕ) (s : Sheet) (C : Lists) (M : Marking) (n : ℕ) (opens : opened bs ≡ Ok (opened_of s)) (inverse : Inverse bs) (small : AreBytes bs) (measured : Measured (lists_of s) (Ok (M, n)))
-    (means : C ≡ closed_by (lists_of s) M) (at : area ≡ drop s.names_at bs) (place : s.names_at ≡ names_byte (lists_of s)) where
-  held : area ≡ area_of (names_in (opened_of s))
+module _ (bs area : List ℕ) (s : Sheet) (C : Lists) (opens : opened bs ≡ Ok (opened_of s)) (inverse : Inverse bs) (small : AreBytes bs) (closes : ClosedBy (lists_of s) C)
+    (at : area ≡ drop s.names_at bs) (place : s.names_at ≡ names_byte (lists_of s)) where
+  pub held : area ≡ area_of (names_in (opened_of s))
   unfolding opened_of
   held =
       let found = inverse.only (opened_of s) opens in
@@ -50,19 +40,22 @@ module _ (bs area : List ℕ) (s : Sheet) (C : Lists) (M : Marking) (n : ℕ) (o
     holds = opened_of s;
     opens = opens;
     meaning = C;
-    closed = closed-measured (lists_of s) C M n measured means;
+    closed = closes;
     sheet = subst (λ (ts : List (List ℕ)). IsSheet (record { lists = C; names = ts }) vs) (area-same written.0 (names_in (opened_of s)) (sym written.1 ∙ held)) written.2;
   }
 
-  pub unwritten : (f : Refusal) → write_refused C area 27078 ≡ Some f → UnwrittenAs bs f
+  pub writable : IsWritable (record { lists = C; names = names_in (opened_of s) })
   unfolding opened_of
-  unwritten f h = record {
-    holds = opened_of s;
-    opens = opens;
-    meaning = C;
-    closed = closed-measured (lists_of s) C M n measured means;
-    refused = ap (λ a. write_refused C a 27078) (sym held) ∙ h;
-  }
+  writable =
+      let found = inverse.only (opened_of s) opens in
+      let c = found.0 in
+      let same : lists_of s ≡ c.lists = ap (λ (o : Opened). o.lists) found.2 in
+      let names : names_in (opened_of s) ≡ c.names = ap names_in found.2 ∙ names-meaning c in
+      let N = closes.marks in
+      let tested : test_refused c.lists N ≡ None = subst (λ (T : Lists). test_refused T N ≡ None) same closes.passes in
+      let is : C ≡ closed c.lists N = closes.meaning ∙ ap (λ (T : Lists). closed T N) same in
+      subst (λ (ts : List (List ℕ)). IsWritable (record { lists = C; names = ts })) (sym names)
+      (subst (λ (L : Lists). IsWritable (record { lists = L; names = c.names })) (sym is) (closed-writable c found.1.writable N tested))
 
 -- a sheet is refused in one way, and one that can be closed in none
 

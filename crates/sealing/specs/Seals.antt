@@ -1,18 +1,17 @@
 -- A sheet whose table is closed, and written as a sheet again.
---   names_in o        the names of an opened sheet, those of its processes first
 --   SealedAs bs vs    bs opens, its table can be closed, and vs is the sheet of the closed table with the same names
---   UnwrittenAs bs f  f is the refusal of writing the closed table with the same names, where there is room for any sheet
 --   RefusedAs bs f    f is the refusal of opening bs, or else that of testing its table
-use Rattle.std.specs.Prelude.{◌≡◌, ℕ, ◌⊎◌, List, ◌++◌, map, Some, Ok, Err}
-use Rattle.reading.specs.Opening.{Opened, opened}
-use Rattle.reading.specs.Spelling.{IsSheet, area_of}
+--   PutInFront vs old new     new is old with vs in the place of its first bytes, if there is room for it, and else as it was
+--   SealedInto bs n old new   bs is closed as a sheet of n bytes, which is put in front
+--   seal_refusal e    the refusal that e tells, with its number, layer and place; none where memory ran out
+use Rattle.std.specs.Prelude.{◌≡◌, ℕ, ◌<◌, ◌≤◌, ◌⊎◌, List, ◌++◌, drop, length, Some, None, Ok, Err, Option}
+use Rattle.reading.specs.Opening.{Opened, names_in, opened}
+use Rattle.reading.specs.Spelling.{IsSheet}
 use Rattle.refusal.specs.declared.fault.Refusal.{Refusal}
 use Rattle.rules.specs.Promise.{ClosedBy, Measured}
+use Rattle.sealing.specs.declared.fault.SealError.{SealError}
+use Rattle.sealing.specs.declared.fault.SealError.TheVariants.{Refused, OutOfMemory}
 use Rattle.table.specs.Lists.{Lists}
-use Rattle.writing.specs.Written.{write_refused}
-
-abbrev pub names_in : Opened → List (List ℕ)
-names_in o = map (λ n. n.1) (o.process_names ++ o.signal_names)
 
 pub record SealedAs (bs vs : List ℕ) : Type 0 where
   pub holds : Opened
@@ -24,9 +23,13 @@ pub record SealedAs (bs vs : List ℕ) : Type 0 where
 abbrev pub RefusedAs : List ℕ → Refusal → Type 0
 RefusedAs bs f = (opened bs ≡ Err f) ⊎ ((o : Opened) × (opened bs ≡ Ok o) × Measured o.lists (Err f))
 
-pub record UnwrittenAs (bs : List ℕ) (f : Refusal) : Type 0 where
-  pub holds : Opened
-  pub opens : opened bs ≡ Ok holds
-  pub meaning : Lists
-  pub closed : ClosedBy holds.lists meaning
-  pub refused : write_refused meaning (area_of (names_in holds)) 27078 ≡ Some f
+pub record PutInFront (vs old new : List ℕ) : Type 0 where
+  pub room : length vs ≤ length old → new ≡ vs ++ drop (length vs) old
+  pub short : length old < length vs → new ≡ old
+
+abbrev pub SealedInto : List ℕ → ℕ → List ℕ → List ℕ → Type 0
+SealedInto bs n old new = (vs : List ℕ) × SealedAs bs vs × (n ≡ length vs) × PutInFront vs old new
+
+abbrev pub seal_refusal : SealError → Option Refusal
+seal_refusal (Refused f) = Some f
+seal_refusal OutOfMemory = None

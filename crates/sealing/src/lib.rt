@@ -4,3 +4,5 @@
 pub mod fault;
 pub mod seal;
 mod summary;
+#[cfg(test)]
+mod tests;

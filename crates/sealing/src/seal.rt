@@ -1,17 +1,17 @@
 //! Closing the table of a sheet, and writing the closed table as a sheet.
-ghost use Rattle.std.specs.Prelude.{◌≡◌, ℕ, ◌⊎◌, IfOk, IfErr, Some, Ok, Err, string_bytes};
+ghost use Rattle.std.specs.Prelude.{◌≡◌, ℕ, ◌≤◌, List, IfOk, IfErr, IfSome, OnErr, Ok, Err, length, string_bytes};
 ghost use Rattle.closing.specs.Layers.{layered};
 ghost use Rattle.marks.specs.Words.{marking};
 ghost use Rattle.reading.specs.Opening.{names_byte, opened};
-ghost use Rattle.reading.specs.Spelling.{Inverse};
+ghost use Rattle.reading.specs.Spelling.{Inverse, IsWritable, area_of};
 ghost use Rattle.rules.specs.Closing.{closed_by};
-ghost use Rattle.rules.specs.Promise.{Measured};
-ghost use Rattle.sealing.specs.Seals.{SealedAs, RefusedAs, UnwrittenAs};
+ghost use Rattle.rules.specs.Promise.{ClosedBy, Measured};
+ghost use Rattle.sealing.specs.Seals.{PutInFront, RefusedAs, SealedAs, SealedInto, seal_refusal};
 ghost use Rattle.sealing.specs.Summary.{Summarised};
 ghost use Rattle.sheet.specs.Views.{bytes_of, lists_of, opened_of};
 ghost use Rattle.refusal.specs.declared.fault.Refusal.{Refusal};
 ghost use Rattle.sealing.specs.declared.fault.SealError.TheVariants.{Refused};
-ghost use Rattle.writing.specs.Written.{IsWrittenAs, write_refused};
+ghost use Rattle.writing.specs.Written.{IsWrittenAs, needed};
 
 use crate::fault::SealError;
 use crate::summary::describe;
@@ -21,8 +21,9 @@ use marks::marks::Marks;
 use refusal::fault::Refusal;
 use sheet::opening::open_sheet;
 use sheet::view::Sheet;
-use std::alloc::Global;
+use std::alloc::{AllocError, Global};
 use table::questions::Table;
+use writing::fault::WriteFault;
 use writing::write::write_sheet;
 
 /// No sheet has more bytes: 8 processes of 8 variables and 8 timers, 64 signals, 2,048 edges, 4,096 terms, and 72 names of 15.
@@ -39,13 +40,25 @@ pub struct Sealed {
 pub fn seal(heap: Global, bytes: &[u8]) -> Result<Sealed, SealError>
     ensures sealed { IfOk result (λ v. SealedAs bytes.now v.sheet.items) }
     ensures summary { IfOk result (λ v. Summarised bytes.now (string_bytes v.summary)) }
-    ensures refused { IfErr result (λ e. (f : Refusal) → e ≡ Refused f → RefusedAs bytes.now f ⊎ UnwrittenAs bytes.now f) }
+    ensures refused { IfErr result (λ e. IfSome (seal_refusal e) (RefusedAs bytes.now)) }
     ensures told { (f : Refusal) → RefusedAs bytes.now f → result ≡ Err (Refused f) }
 {
     let (open, closed, marks) = judge(bytes)?;
-    let sheet = write(heap, &closed, open.name_area(), LARGEST_SHEET)?;
+    let sheet = write_anew(heap, &closed, open.name_area(), LARGEST_SHEET)?;
     let summary = describe(heap, &open, &closed, &marks)?;
     Ok(Sealed { sheet, summary })
+}
+
+/// Writes the sheet of the closed table, with the names that the open one has, to the start of the output, if there is room for it;
+/// answers how many bytes it has. With less room nothing is written.
+pub fn seal_into(bytes: &[u8], output: &mut [u8]) -> Result<usize, Refusal>
+    ensures sealed { IfOk result (λ n. SealedInto bytes.now n output.old output.new) }
+    ensures refused { IfErr result (RefusedAs bytes.now) }
+    ensures told { (f : Refusal) → RefusedAs bytes.now f → result ≡ Err f }
+    ensures same { OnErr result (output.new ≡ output.old) }
+{
+    let (open, closed, _) = judge(bytes)?;
+    Ok(write(&closed, open.name_area(), output))
 }
 
 /// The sheet in these bytes, its table closed, and the marks that it is closed by; or why it cannot be closed.
@@ -57,19 +70,42 @@ pub fn judge(bytes: &[u8]) -> Result<(Sheet<'_>, Layer<Sheet<'_>>, Marks), Refus
     ensures opens { IfOk result (λ j. opened bytes.now ≡ Ok (opened_of j.0)) }
     ensures tests { IfOk result (λ j. (n : ℕ) × Measured (lists_of j.0) (Ok (marking j.2, n))) }
     ensures closed { IfOk result (λ j. layered j.1.plan (lists_of j.1.below) ≡ closed_by (lists_of j.0) (marking j.2)) }
+    ensures closes { IfOk result (λ j. ClosedBy (lists_of j.0) (layered j.1.plan (lists_of j.1.below))) }
 {
     let sheet = open_sheet(bytes)?;
     let (closed, marks) = close_tested(sheet)?;
     Ok((sheet, closed, marks))
 }
 
-/// The table as a sheet of at most `room` bytes, with these names.
-fn write<T: Table>(heap: Global, table: &T, names: &[u8], room: usize) -> Result<Vec<u8>, SealError>
-    ensures sheet { IfOk result (λ v. IsWrittenAs (T.lists table.now) names.now v.items) }
-    ensures refused { IfErr result (λ e. (f : Refusal) → e ≡ Refused f → write_refused (T.lists table.now) names.now room ≡ Some f) }
+/// Writes the sheet of a table and names of which nothing but the room can be refused; answers how many bytes it has. With less room
+/// nothing is written.
+fn write<T: Table>(table: &T, names: &[u8], output: &mut [u8]) -> usize
+    requires { (texts : List (List ℕ)) × (names.now ≡ area_of texts) × IsWritable (record { lists = T.lists table.now; names = texts }) }
+    ensures size { result ≡ needed (T.lists table.now) names.now }
+    ensures sheet { (vs : List ℕ) × IsWrittenAs (T.lists table.now) names.now vs × (result ≡ length vs) × PutInFront vs output.old output.new }
+{
+    match write_sheet(table, names, output) {
+        Ok(size) => size,
+        Err(WriteFault::Short(size)) => size,
+        Err(WriteFault::Processes) => unreachable!(),
+        Err(WriteFault::Table(_)) => unreachable!(),
+        Err(WriteFault::Names(_)) => unreachable!(),
+    }
+}
+
+/// The same in memory of its own, where the sheet has at most `room` bytes.
+fn write_anew<T: Table>(
+    heap: Global,
+    table: &T,
+    names: &[u8],
+    room: usize,
+) -> Result<Vec<u8>, AllocError>
+    requires writable { (texts : List (List ℕ)) × (names.now ≡ area_of texts) × IsWritable (record { lists = T.lists table.now; names = texts }) }
+    requires room { needed (T.lists table.now) names.now ≤ room }
+    ensures { IfOk result (λ v. IsWrittenAs (T.lists table.now) names.now v.items) }
 {
     let mut output = vec![in heap; 0; room]?;
-    let size = write_sheet(table, names, &mut output).map_err(Refusal::from)?;
+    let size = write(table, names, &mut output);
     output.truncate(size);
     Ok(output)
 }

@@ -1,5 +1,5 @@
 -- The parts of a sheet, joined.
-use Rattle.std.proofs.Common.{◌≡◌, ℕ, ◌+◌, ◌-◌, ◌*◌, ◌/◌, ◌%◌, ◌≤◌, min, List, map, length, take, drop, None, Ok, Result, sym, refl, ap, ◌∙◌, subst, arith, length-take}
+use Rattle.std.proofs.Common.{◌≡◌, ℕ, ◌+◌, ◌-◌, ◌*◌, ◌/◌, ◌%◌, ◌≤◌, min, List, length, take, drop, None, Ok, Result, sym, refl, ap, ◌∙◌, subst, arith, length-take}
 use Rattle.std.proofs.lemmas.List.{length-map}
 use Rattle.reading.proofs.Chains.{after-got, read}
 use Rattle.reading.specs.Formats.{Answer, got, many, filled, ended}
@@ -7,16 +7,16 @@ use Rattle.reading.specs.Layout.{header_format, process_format, signal_format, e
 use Rattle.reading.proofs.Inverse.{read-limits}
 use Rattle.reading.proofs.Viewing.{length-row}
 use Rattle.reading.specs.Opening.{Opened, processes_bits, edges_bit, names_byte, placed, split}
-use Rattle.reading.specs.Readings.{Reads}
-use Rattle.reading.specs.Rows.{no_edge, no_term, named_at, edges_from, terms_from, texts_at}
+use Rattle.reading.specs.Readings.{Reads, read_at}
+use Rattle.reading.specs.Rows.{no_edge, no_term, named_at, processes_at, signals_from, edges_from, terms_from, texts_at}
 use Rattle.sheet.specs.Views.{names_of, opened_of, contents_of, lists_of}
 use Rattle.reading.specs.declared.fault.SheetFault.{SheetFault}
 use Rattle.reading.specs.declared.reader.Reader.{Reader}
 use Rattle.sheet.specs.declared.view.Sheet.{Sheet}
 use Rattle.reading.specs.declared.records.Counts.{Counts}
 use Rattle.table.specs.Examination.{limits_refused}
-use Rattle.table.specs.Lists.{Proc, meant}
-use Rattle.table.specs.declared.record.Process.{Process}
+use Rattle.table.specs.Edges.{absent, blank}
+use Rattle.table.specs.Lists.{Proc}
 use Rattle.table.specs.declared.record.Edge.{Edge}
 use Rattle.table.specs.declared.record.Signal.{Signal}
 use Rattle.table.specs.declared.record.Term.{Term}
@@ -39,13 +39,13 @@ whole bs p e1 e2 e3 e4 e5 e6 e7 e8 =
 elsewhere : {A : Type 0} (means : List ℕ → A) {a : Answer A} {q : ℕ} (bs cs : List ℕ) → bs ≡ cs → a ≡ got (means bs) q → a ≡ got (means cs) q
 elsewhere means {q} bs cs e h = h ∙ ap (λ b. got (means b) q) e
 
-length-processes : (n : ℕ) (ps : List Process) → length (map meant (take n ps)) ≡ min n (length ps)
-length-processes n ps = length-map (take n ps) meant ∙ length-take n ps
+length-processes : (bs : List ℕ) (n : ℕ) (ps : List ℕ) → length (processes_at bs (take n ps)) ≡ min n (length ps)
+length-processes bs n ps = length-map (take n ps) (λ p. read_at process_format blank bs p) ∙ length-take n ps
 
-module _ {s0 s1 s2 s3 s4 s5 s6 s7 s8 : Reader} {n : Counts} (ps : List Process) (ss : List Signal) {r1 : Result Counts SheetFault} {r2 r3 r4 r5 r7 r8 : Result Unit SheetFault} {r6 : Result ℕ SheetFault} {x2 x3 x4 x5 x7 x8 : Unit} {x6 m : ℕ}
+module _ {s0 s1 s2 s3 s4 s5 s6 s7 s8 : Reader} {n : Counts} (ps : List ℕ) {r1 : Result Counts SheetFault} {r2 r3 r4 r5 r7 r8 : Result Unit SheetFault} {r6 : Result ℕ SheetFault} {x2 x3 x4 x5 x7 x8 : Unit} {x6 m : ℕ}
     (h1 : Reads header_format.reads (λ c. c) s0 r1 s1) (e1 : r1 ≡ Ok n)
-    (h2 : Reads (many n.processes process_format).reads (λ _. map meant (take n.processes ps)) s1 r2 s2) (e2 : r2 ≡ Ok x2)
-    (h3 : Reads (many n.signals (signal_format n.processes)).reads (λ _. take n.signals ss) s2 r3 s3) (e3 : r3 ≡ Ok x3)
+    (h2 : Reads (many n.processes process_format).reads (λ _. processes_at s1.bytes.now (take n.processes ps)) s1 r2 s2) (e2 : r2 ≡ Ok x2)
+    (h3 : Reads (many n.signals (signal_format n.processes)).reads (λ _. signals_from s2.bytes.now s2.place n.processes n.signals) s2 r3 s3) (e3 : r3 ≡ Ok x3)
     (h4 : Reads (many n.edges edge_format).reads (λ _. edges_from s3.bytes.now s3.place n.edges) s3 r4 s4) (e4 : r4 ≡ Ok x4)
     (h5 : Reads (many n.terms term_format).reads (λ _. terms_from s4.bytes.now s4.place n.terms) s4 r5 s5) (e5 : r5 ≡ Ok x5)
     (h6 : Reads filled.reads (λ v. v) s5 r6 s6) (e6 : r6 ≡ Ok x6)
@@ -53,7 +53,7 @@ module _ {s0 s1 s2 s3 s4 s5 s6 s7 s8 : Reader} {n : Counts} (ps : List Process) 
     (h7 : Reads (many m name_format).reads (λ _. texts_at s6.bytes.now (s6.place / 8) m) s6 r7 s7) (e7 : r7 ≡ Ok x7)
     (h8 : Reads ended.reads (λ _. 0) s7 r8 s8) (e8 : r8 ≡ Ok x8) where
   abbrev made : Sheet
-  made = record { bytes = s8.bytes; counts = n; processes = ps; signals = ss; edges_at = s3.place; terms_at = s4.place; names_at = s6.place / 8 }
+  made = record { bytes = s8.bytes; counts = n; processes_at = ps; signals_at = s2.place; edges_at = s3.place; terms_at = s4.place; names_at = s6.place / 8 }
 
   pub sheet-read : Reads sheet_format.reads contents_of s0
       (Ok made) s8
@@ -72,8 +72,8 @@ module _ {s0 s1 s2 s3 s4 s5 s6 s7 s8 : Reader} {n : Counts} (ps : List Process) 
       record {
         value = sym (whole bs s0.place
             (read bs h1 e1 refl)
-            (read bs h2 e2 b1)
-            (read bs h3 e3 b2)
+            (elsewhere (λ b. processes_at b (take n.processes ps)) s1.bytes.now end (b1 ∙ sym b8) (read bs h2 e2 b1))
+            (elsewhere (λ b. signals_from b s2.place n.processes n.signals) s2.bytes.now end (b2 ∙ sym b8) (read bs h3 e3 b2))
             (elsewhere (λ b. edges_from b s3.place n.edges) s3.bytes.now end (b3 ∙ sym b8) (read bs h4 e4 b3))
             (elsewhere (λ b. terms_from b s4.place n.terms) s4.bytes.now end (b4 ∙ sym b8) (read bs h5 e5 b4))
             (read bs h6 e6 b5)
@@ -83,12 +83,13 @@ module _ {s0 s1 s2 s3 s4 s5 s6 s7 s8 : Reader} {n : Counts} (ps : List Process) 
         stays = tt;
       }
 
-  pub sheet-edges : s0.place ≡ 0 → s1.place ≡ s0.place + 44 → s2.place ≡ s1.place + processes_bits (map meant (take n.processes ps)) → n.signals ≤ 64 → length ss ≡ 64 → s3.place ≡ s2.place + 6 * n.signals →
+  pub sheet-edges : s0.place ≡ 0 → s1.place ≡ s0.place + 44 → s2.place ≡ s1.place + processes_bits (processes_at s1.bytes.now (take n.processes ps)) → s3.place ≡ s2.place + 6 * n.signals →
       s3.place ≡ edges_bit (lists_of made)
   unfolding lists_of
-  sheet-edges m0 m1 m2 few long m3 =
-      let l = length-take n.signals ss in
-      omega arith
+  sheet-edges m0 m1 m2 m3 =
+      let b : s1.bytes.now ≡ s8.bytes.now = sym (h8.same ∙ h7.same ∙ h6.same ∙ h5.same ∙ h4.same ∙ h3.same ∙ h2.same) in
+      let l = length-row (signal_format n.processes) absent s8.bytes.now s2.place 6 n.signals in
+      omega (arith, ap (λ bs. processes_bits (processes_at bs (take n.processes ps))) b)
 
   pub sheet-names_at : s3.place ≡ edges_bit (lists_of made) →
       n.processes ≤ 8 → length ps ≡ 8 → s4.place ≡ s3.place + 60 * n.edges → s5.place ≡ s4.place + 20 * n.terms → s6.place ≡ s5.place + (8 - s5.place % 8) % 8 →
@@ -96,7 +97,7 @@ module _ {s0 s1 s2 s3 s4 s5 s6 s7 s8 : Reader} {n : Counts} (ps : List Process) 
   unfolding lists_of
   sheet-names_at edges few long m4 m5 m6 =
       let bs = s8.bytes.now in
-      let l = length-processes n.processes ps in
+      let l = length-processes bs n.processes ps in
       let e = length-row edge_format no_edge bs s3.place 60 n.edges in
       let t = length-row term_format no_term bs s4.place 20 n.terms in
       omega arith
@@ -112,7 +113,7 @@ module _ {s0 s1 s2 s3 s4 s5 s6 s7 s8 : Reader} {n : Counts} (ps : List Process) 
       let T = lists_of s in
       let texts = texts_at bs (s6.place / 8) (n.processes + n.signals) in
       let b : s6.bytes.now ≡ bs = sym (h8.same ∙ h7.same) in
-      let l : length T.processes ≡ n.processes = omega (arith, length-processes n.processes ps) in
+      let l : length T.processes ≡ n.processes = omega (arith, length-processes bs n.processes ps) in
       let a : names_byte T ≡ s6.place / 8 = sym (sheet-names_at edges few long m4 m5 m6) in
       let laid2 : placed (s6.place / 8) (texts_at bs (s6.place / 8) m) ≡ named_at bs (s6.place / 8) m =
       subst (λ (ys : List ℕ). placed (s6.place / 8) (texts_at ys (s6.place / 8) m) ≡ named_at ys (s6.place / 8) m) b laid in

@@ -1,27 +1,27 @@
 -- What a view of a sheet means.
 --   bytes_of s          the bytes it lies in
---   lists_of s          the table that the view s means
+--   lists_of s          the table that the view s means: what the layout reads at its places
 --   texts_of s          the names, as the layout has them
 --   contents_of s       that table with those names
 --   names_of s          the names with their places
 --   opened_of s         the table, and the names of processes and of signals with their places
 --   heard r             a name that was answered: its place, and what lies there
-use Rattle.std.specs.Prelude.{ℕ, ◌+◌, List, map, take, drop, Option}
+use Rattle.std.specs.Prelude.{ℕ, ◌+◌, List, take, drop, Option}
 use Rattle.std.specs.Borrow.{Bor}
 use Rattle.std.specs.Option.{option_map}
 use Rattle.reading.specs.Layout.{Contents}
 use Rattle.reading.specs.Opening.{Opened}
-use Rattle.reading.specs.Rows.{edges_from, terms_from, texts_at, named_at}
+use Rattle.reading.specs.Rows.{processes_at, signals_from, edges_from, terms_from, texts_at, named_at}
 use Rattle.sheet.specs.declared.view.Sheet.{Sheet}
-use Rattle.table.specs.Lists.{Lists, meant}
+use Rattle.table.specs.Lists.{Lists}
 
 abbrev pub bytes_of : Sheet → List ℕ
 bytes_of s = s.bytes.now
 
 unfoldable pub lists_of : Sheet → Lists
 lists_of s = record {
-  processes = map meant (take s.counts.processes s.processes);
-  signals = take s.counts.signals s.signals;
+  processes = processes_at (bytes_of s) (take s.counts.processes s.processes_at);
+  signals = signals_from (bytes_of s) s.signals_at s.counts.processes s.counts.signals;
   edges = edges_from (bytes_of s) s.edges_at s.counts.edges;
   terms = terms_from (bytes_of s) s.terms_at s.counts.terms;
 }

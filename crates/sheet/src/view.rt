@@ -3,18 +3,19 @@ ghost use Rattle.std.specs.Prelude.{◌≡◌, ◌+◌, ◌*◌, ◌≤◌, IfSo
 ghost use Rattle.sheet.specs.Views.{lists_of};
 
 use reading::reader::Reader;
-use reading::records::{Counts, EDGE_BITS, TERM_BITS};
+use reading::records::{Counts, EDGE_BITS, SIGNAL_BITS, TERM_BITS};
 use table::limits;
 use table::questions::Table;
 use table::record::{Edge, Process, Signal, Term};
 
-/// A view over the bytes of a sheet, with its processes and signals, and the places of its other parts: bits, but for the names' byte.
+/// A view over the bytes of a sheet: the bit at which each process begins, and where its other parts begin, by bits but for the names'
+/// byte. A record is read where it lies whenever it is asked for.
 #[derive(Clone, Copy)]
 pub struct Sheet<'a> {
     pub(crate) bytes: &'a [u8],
     pub(crate) counts: Counts,
-    pub(crate) processes: [Process; limits::PROCESSES],
-    pub(crate) signals: [Signal; limits::SIGNALS],
+    pub(crate) processes_at: [u32; limits::PROCESSES],
+    pub(crate) signals_at: u32,
     pub(crate) edges_at: u32,
     pub(crate) terms_at: u32,
     pub(crate) names_at: u32,
@@ -41,7 +42,7 @@ impl<'a> Table for Sheet<'a> {
     }
 
     fn signal_count(&self) -> usize {
-        usize::from(self.counts.signals).min(limits::SIGNALS)
+        usize::from(self.counts.signals)
     }
 
     fn edge_count(&self) -> usize {
@@ -53,15 +54,17 @@ impl<'a> Table for Sheet<'a> {
     }
 
     fn process(&self, p: usize, place: &mut Process) -> bool {
-        let Some(process) = self.processes[..self.process_count()].get(p) else {
+        let Some(at) = self.processes_at[..self.process_count()].get(p) else {
             return false;
         };
-        *place = *process;
+        *place = Reader::at(self.bytes, *at as usize).process_here();
         true
     }
 
     fn signal(&self, s: usize) -> Option<Signal> {
-        self.signals[..self.signal_count()].get(s).copied()
+        let counts = self.counts;
+        let reader = self.record(self.signals_at, SIGNAL_BITS, counts.signals.into(), s)?;
+        Some(reader.signal_here(counts.processes))
     }
 
     fn edge(&self, k: usize) -> Option<Edge> {

@@ -1,5 +1,5 @@
 -- What a state means, process by process, and once one of its processes changed, and its queue with it.
-use Rattle.std.proofs.Common.{◌≡◌, ℕ, ◌+◌, ◌-◌, ◌*◌, ◌<◌, ◌≤◌, ◌≢◌, eqb, List, [], ◌∷◌, length, get_or, take, drop, set, Option, sym, refl, ap, ◌∙◌, subst, ⊎_elim, zero-add, arith}
+use Rattle.std.proofs.Common.{◌≡◌, ℕ, ◌+◌, ◌-◌, ◌*◌, ◌<◌, ◌≤◌, ◌≢◌, eqb, List, [], ◌∷◌, length, get_or, take, drop, set, Option, sym, refl, ap, ◌∙◌, ⊎_elim, zero-add, arith}
 use borrow.Rule.Slice.PartMut.{put_mid}
 use Rattle.std.proofs.lemmas.List.{same_lists, length-set, length-append, length-take, length-drop, length-take-le, get_or-take, get_or-set_same, get_or-set_other}
 use Rattle.std.specs.List.{slice_get}
@@ -122,14 +122,12 @@ module _ (s : State) (m : List Message) (p : ℕ) (d : Local) (here : p < s.coun
   pub at_lent : running (take (16 * p + 16 - 16 * p) (drop (16 * p) m)) (get_or s.processes p d) ≡ at (world_of s m) p
   at_lent = ap (λ xs. running xs (get_or s.processes p d)) (slot_lent 16 p m) ∙ at_place
 
-  -- a change f of process p, which became b; the places of its queue are ps, and ys after it
+  -- a change f of process p, which became b
   module _ (b : Local) (f : Running → Running) where
-    pub world-changed : (ps : List Message) → ps ≡ take (16 * p + 16 - 16 * p) (drop (16 * p) m) → running ps b ≡ f (running ps (get_or s.processes p d)) → world s.count (set s.processes p b) m ≡ put (world_of s m) p (f (at (world_of s m) p))
-    world-changed ps e is =
-        let q : ps ≡ slot 16 p m = e ∙ slot_lent 16 p m in
-        world-put s.count s.processes m (enough s m) m p b (f (at (world_of s m) p)) here refl (λ k ne. refl)
-        (subst (λ xs. running xs b ≡ f (running xs (get_or s.processes p d))) q is ∙ ap f at_place)
+    pub world-changed : ((ps : List Message) → running ps b ≡ f (running ps (get_or s.processes p d))) → world s.count (set s.processes p b) m ≡ put (world_of s m) p (f (at (world_of s m) p))
+    world-changed is = world-put s.count s.processes m (enough s m) m p b (f (at (world_of s m) p)) here refl (λ k ne. refl) (is (slot 16 p m) ∙ ap f at_place)
 
+    -- the places of its queue are ys after it
     pub world-written : (ys : List Message) → 16 * p + 16 ≤ length m → length ys ≡ 16 → running ys b ≡ f (running (take (16 * p + 16 - 16 * p) (drop (16 * p) m)) (get_or s.processes p d)) → world s.count (set s.processes p b) (put_mid (16 * p) (16 * p + 16 - 16 * p) m ys) ≡ put (world_of s m) p (f (at (world_of s m) p))
     world-written ys room long is =
         world-put s.count s.processes m (enough s m) (put_mid (16 * p) (16 * p + 16 - 16 * p) m ys) p b (f (at (world_of s m) p)) here

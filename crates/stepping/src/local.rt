@@ -103,18 +103,20 @@ impl Local {
     }
 
     /// Takes the head off the queue.
-    pub(crate) fn pop(&mut self, places: &[Message]) -> Option<Message>
-        requires { length places.now ≡ 16 }
-        ensures process { running places.now self.new ≡ dropped (running places.now self.old) }
-        ensures head { result ≡ slice_get (running places.now self.old).queue 0 }
+    pub(crate) fn pop(&mut self, places: &mut [Message]) -> Option<Message>
+        requires { length places.old ≡ 16 }
+        ensures process { running places.new self.new ≡ dropped (running places.old self.old) }
+        ensures head { result ≡ slice_get (running places.old self.old).queue 0 }
+        ensures places { places.new ≡ places.old }
     {
         self.queue.remove(places)
     }
 
     /// Takes the head off the queue; its value goes into the variable, if there is one.
-    fn take(&mut self, places: &[Message], variable: Option<u8>)
-        requires { length places.now ≡ 16 }
-        ensures { running places.now self.new ≡ taken variable (running places.now self.old) }
+    fn take(&mut self, places: &mut [Message], variable: Option<u8>)
+        requires { length places.old ≡ 16 }
+        ensures process { running places.new self.new ≡ taken variable (running places.old self.old) }
+        ensures places { places.new ≡ places.old }
     {
         let value = self.pop(places).map_or(0, |message| message.value);
         if let Some(variable) = variable {
@@ -144,9 +146,10 @@ impl Local {
     }
 
     /// Moves along the edge, whose value is given.
-    pub(crate) fn follow(&mut self, places: &[Message], edge: &Edge, value: i16)
-        requires { length places.now ≡ 16 }
-        ensures { running places.now self.new ≡ moved (kind_of edge.now.kind) value edge.now (running places.now self.old) }
+    pub(crate) fn follow(&mut self, places: &mut [Message], edge: &Edge, value: i16)
+        requires { length places.old ≡ 16 }
+        ensures process { running places.new self.new ≡ moved (kind_of edge.now.kind) value edge.now (running places.old self.old) }
+        ensures places { places.new ≡ places.old }
     {
         self.location = edge.to;
         let first = usize::from(edge.first);

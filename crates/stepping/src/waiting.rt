@@ -75,13 +75,14 @@ impl State {
     pub(crate) fn discard<T: Leaving>(
         &mut self,
         table: &T,
-        memory: &[Message],
+        memory: &mut [Message],
         process: u16,
     ) -> Result<(), StateFault>
-        requires { state_refused (T.lists table.now) (world_of self.old memory.now) ≡ None }
-        ensures refused { outcome state_refusal result ≡ call_refused (T.lists table.now) (world_of self.old memory.now) (Discard process) }
-        ensures world { let W = world_of self.old memory.now in world_of self.new memory.now ≡ (if is_ok result then effect (T.lists table.now) W (Discard process) else W) }
+        requires { state_refused (T.lists table.now) (world_of self.old memory.old) ≡ None }
+        ensures refused { outcome state_refusal result ≡ call_refused (T.lists table.now) (world_of self.old memory.old) (Discard process) }
+        ensures world { let W = world_of self.old memory.old in world_of self.new memory.new ≡ (if is_ok result then effect (T.lists table.now) W (Discard process) else W) }
         ensures beyond { beyond self.new ≡ beyond self.old }
+        ensures memory { memory.new ≡ memory.old }
         ensures state { IfErr result (λ f. self.new ≡ self.old) }
     {
         let p = usize::from(process);

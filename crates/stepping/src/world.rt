@@ -21,16 +21,17 @@ impl State {
     }
 
     /// The process of the edge moves along it; the edge's value is given.
-    pub(crate) fn follow(&mut self, memory: &[Message], edge: &Edge, value: i16)
+    pub(crate) fn follow(&mut self, memory: &mut [Message], edge: &Edge, value: i16)
         requires there { edge.now.process < self.old.count }
-        requires room { 16 * edge.now.process + 16 ≤ length memory.now }
-        ensures world { let W = world_of self.old memory.now in world_of self.new memory.now ≡ put W edge.now.process (moved (kind_of edge.now.kind) value edge.now (at W edge.now.process)) }
+        requires room { 16 * edge.now.process + 16 ≤ length memory.old }
+        ensures world { let W = world_of self.old memory.old in world_of self.new memory.new ≡ put W edge.now.process (moved (kind_of edge.now.kind) value edge.now (at W edge.now.process)) }
         ensures count { self.new.count ≡ self.old.count }
         ensures beyond { beyond self.new ≡ beyond self.old }
+        ensures memory { memory.new ≡ memory.old }
     {
         let p = usize::from(edge.process);
         let mut local = self.processes[p];
-        local.follow(&memory[16 * p..16 * p + 16], edge, value);
+        local.follow(&mut memory[16 * p..16 * p + 16], edge, value);
         self.processes[p] = local;
     }
 
@@ -47,15 +48,16 @@ impl State {
     }
 
     /// Takes the head off the queue of process p.
-    pub(crate) fn pop(&mut self, memory: &[Message], p: usize)
+    pub(crate) fn pop(&mut self, memory: &mut [Message], p: usize)
         requires there { p < self.old.count }
-        requires room { 16 * p + 16 ≤ length memory.now }
-        ensures world { let W = world_of self.old memory.now in world_of self.new memory.now ≡ put W p (dropped (at W p)) }
+        requires room { 16 * p + 16 ≤ length memory.old }
+        ensures world { let W = world_of self.old memory.old in world_of self.new memory.new ≡ put W p (dropped (at W p)) }
         ensures count { self.new.count ≡ self.old.count }
         ensures beyond { beyond self.new ≡ beyond self.old }
+        ensures memory { memory.new ≡ memory.old }
     {
         let mut local = self.processes[p];
-        local.pop(&memory[16 * p..16 * p + 16]);
+        local.pop(&mut memory[16 * p..16 * p + 16]);
         self.processes[p] = local;
     }
 

@@ -1,5 +1,7 @@
 //! The plain records of a table. Their numbers are as wide as the code's, so that a wrong record can be handed in and refused.
 ghost use Rattle.std.specs.Prelude.{◌≡◌};
+ghost use Rattle.table.specs.Edges.{absent, blank};
+ghost use Rattle.table.specs.Lists.{meant};
 ghost use Rattle.table.specs.Records.{kind_of, class_of, mode_of, operation_of};
 
 /// A timer: off, or on with so many ticks to go.
@@ -112,13 +114,18 @@ impl Process {
 }
 
 impl Default for Process {
-    fn default() -> Process {
+    fn default() -> Process
+        ensures value { result ≡ Process.BLANK }
+        ensures meaning { meant result ≡ blank }
+    {
         Process::BLANK
     }
 }
 
 impl Default for Signal {
-    fn default() -> Signal {
+    fn default() -> Signal
+        ensures { result ≡ absent }
+    {
         Signal::ABSENT
     }
 }

@@ -8,12 +8,14 @@ mod records;
 mod running;
 mod runs;
 
+use book::laws::example_is_entered;
 use desk::Desk;
 use rules::laws::example_is_worked;
 
 fn run(rt: &HostRuntime) -> anyhow::Result<()> {
-    // Does nothing; its contract says what is proved of this very example.
+    // These do nothing; their contracts say what is proved of this very example, and of the calls that enter it.
     example_is_worked();
+    example_is_entered();
     let mut desk = Desk::new(rt.alloc())?;
     entering::declare(rt, &mut desk)?;
     entering::write_expressions(rt, &mut desk)?;

@@ -7,14 +7,14 @@ use Rattle.reading.specs.Spelling.{Spells, ends}
 use Rattle.reading.proofs.Numbers.{number-byte}
 use Rattle.writing.specs.Writes.{Writes}
 
-ends-bytes : (xs : List ℕ) (a : ℕ) → ends (8 * a) (map (bits 8) xs) ≡ 8 * (a + length xs)
+pub ends-bytes : (xs : List ℕ) (a : ℕ) → ends (8 * a) (map (bits 8) xs) ≡ 8 * (a + length xs)
 unfolding ends
 ends-bytes [] a = omega arith
 ends-bytes (x ∷ xs) a =
     let e : 8 * a + 8 ≡ 8 * (a + 1) = omega arith in
     ap (λ p. ends p (map (bits 8) xs)) e ∙ ends-bytes xs (a + 1) ∙ omega arith
 
-spells-bytes : (bs xs : List ℕ) (a : ℕ) → ((i : ℕ) → i < length xs → get_or bs (a + i) 0 ≡ get_or xs i 0) → ((i : ℕ) → get_or xs i 0 < 256) → Spells bs (8 * a) (map (bits 8) xs)
+pub spells-bytes : (bs xs : List ℕ) (a : ℕ) → ((i : ℕ) → i < length xs → get_or bs (a + i) 0 ≡ get_or xs i 0) → ((i : ℕ) → get_or xs i 0 < 256) → Spells bs (8 * a) (map (bits 8) xs)
 unfolding Spells
 spells-bytes bs [] a same small = tt
 spells-bytes bs (x ∷ xs) a same small =

@@ -1,7 +1,7 @@
 -- Fields written one after the other.
-use Rattle.std.proofs.Common.{◌≡◌, ℕ, zero, suc, ◌+◌, ◌-◌, ◌%◌, ◌<◌, ◌≤◌, List, [], ◌∷◌, ◌++◌, sym, refl, ◌∙◌, arith}
-use Rattle.reading.specs.Formats.{Field, bit, bits, fill, number}
-use Rattle.reading.specs.Spelling.{Spells, ends, width}
+use Rattle.std.proofs.Common.{ℕ, ◌-◌, ◌%◌, ◌≤◌, List, [], ◌∷◌, ◌++◌, sym, refl, ◌∙◌, arith}
+use Rattle.reading.specs.Formats.{Field, bits, fill}
+use Rattle.reading.specs.Spelling.{Spells, ends}
 use Rattle.reading.proofs.Spelled.{ends-above, ends-append, spells-append, spells_same}
 use Rattle.writing.specs.Writes.{Writes}
 

@@ -1,6 +1,7 @@
 pub mod Areas
 pub mod Copies
 pub mod Edges
+pub mod Existing
 pub mod Joins
 pub mod Places
 pub mod Processes
@@ -10,3 +11,4 @@ pub mod Sole
 pub mod Tables
 pub mod Wholes
 pub mod Windows
+pub mod Writable

@@ -1,5 +1,5 @@
 -- The fields of a whole sheet.
-use Rattle.std.proofs.Common.{◌≡◌, ℕ, List, [], ◌∷◌, ◌++◌, map, ap, ◌∙◌}
+use Rattle.std.proofs.Common.{◌≡◌, ℕ, List, ◌∷◌, ◌++◌, map, ap, ◌∙◌}
 use Rattle.reading.proofs.Sizes.{before_fill, names-writes, sheet-writes}
 use Rattle.reading.specs.Formats.{bits, fill}
 use Rattle.reading.specs.Layout.{sheet_format}

@@ -4,7 +4,6 @@ use Rattle.std.proofs.lemmas.Bool.{cases_lt}
 use Rattle.std.proofs.lemmas.List.{get_or-take, get_or_past}
 use Rattle.std.proofs.Math.Seq.{take-append_seam, drop-append_seam}
 use Rattle.reading.proofs.Unique.{one_sheet}
-use Rattle.reading.specs.Layout.{Contents}
 use Rattle.reading.specs.Spelling.{AreBytes, IsSheet, area_of}
 use Rattle.table.specs.Lists.{Lists}
 use Rattle.writing.specs.Written.{IsWrittenAs}

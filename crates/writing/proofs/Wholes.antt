@@ -1,19 +1,18 @@
 -- What is written of a table that nothing is refused of.
-use Rattle.std.proofs.Common.{◌≡◌, ℕ, ◌+◌, ◌-◌, ◌*◌, ◌/◌, ◌%◌, ◌^◌, ◌<◌, ◌≤◌, eqb, ltb, List, length, get_or, take, drop, Ok, Some, None, Option, sym, refl, ap, ◌∙◌, arith, length-drop, length-take-le}
+use Rattle.std.proofs.Common.{◌≡◌, ℕ, ◌+◌, ◌*◌, ◌<◌, ◌≤◌, ◌||◌, eqb, ltb, List, length, get_or, take, drop, Ok, Some, None, Option, sym, refl, ◌∙◌, arith, length-drop, length-take-le}
 use Rattle.std.specs.Option.{option_or}
 use Rattle.std.proofs.lemmas.Bool.Decides.{nat_tests}
-use Rattle.std.proofs.lemmas.List.{ext_get_or, get_or-drop, get_or-take}
+use Rattle.std.proofs.lemmas.List.{ext_get_or, get_or-drop}
 use Rattle.examination.proofs.Nearest.{passes-parts}
 use Rattle.examination.proofs.Placed.{not-refused}
-use Rattle.reading.specs.Formats.{bit}
 use Rattle.reading.specs.Layout.{Contents, sheet_format}
 use Rattle.reading.specs.Opening.{unless}
-use Rattle.reading.specs.Spelling.{FitsRecords, area_of, ends}
+use Rattle.reading.specs.Spelling.{FitsRecords, area_of}
 use Rattle.refusal.specs.declared.fault.Refusal.{Refusal}
 use Rattle.table.specs.Examination.{edges_refused, limits_refused}
 use Rattle.table.specs.Lists.{Lists}
 use Rattle.writing.specs.Writes.{Writes}
-use Rattle.writing.specs.Written.{IsWrittenAs, names_refused, needed, no_process, too_short, write_refused, written}
+use Rattle.writing.specs.Written.{IsWrittenAs, names_refused, miscounted, needed, too_short, write_refused, written}
 use Rattle.writing.proofs.Areas.{Named, area-read}
 use Rattle.reading.proofs.Spelled.{spells_taken}
 
@@ -33,9 +32,9 @@ pub written-passed : (T : Lists) (area : List ℕ) (room n : ℕ) → Ok n ≡ w
 unfolding write_refused
 written-passed T area room n h =
     let o = unless-ok (write_refused T area room) (needed T area) n h in
-    let a = passes-parts (no_process T) (limits_refused T) (option_or (edges_refused T) (option_or (names_refused T area) (too_short (needed T area) room))) o.0 in
+    let a = passes-parts (miscounted T) (limits_refused T) (option_or (edges_refused T) (option_or (names_refused T area) (too_short (needed T area) room))) o.0 in
     let b = passes-parts (edges_refused T) (names_refused T area) (too_short (needed T area) room) a.1.1 in
-    let some = not-refused (eqb (length T.processes) 0) _ a.0 in
+    let some = not-refused (eqb (length T.processes) 0 || ltb 8 (length T.processes)) _ a.0 in
     let fits = not-refused (ltb room (needed T area)) _ b.1.1 in
     record { some = grind (arith, nat_tests); limits = a.1.0; edges = b.0; names = b.1.0; fits = grind (arith, nat_tests); size = o.1 }
 

@@ -9,10 +9,13 @@ ghost use Rattle.writing.specs.Faults.{write_refusal};
 ghost use Rattle.writing.specs.Written.{area_reads, misnamed, written};
 
 use crate::fault::WriteFault;
+use examination::bounds::check_limits;
 use examination::check_records;
+use loading::kept::Kept;
 use reading::fault::SheetFault;
 use reading::reader::Reader;
 use reading::records::{EDGE_BITS, HEADER_BITS, SIGNAL_BITS, TERM_BITS};
+use table::limits;
 use table::questions::{Table, process_or_blank};
 
 /// The names of an area, and its end.
@@ -70,10 +73,11 @@ pub fn check<T: Table>(table: &T, names: &[u8], room: usize) -> Result<usize, Wr
     ensures { result_map_both (λ n. n) write_refusal result ≡ written (T.lists table.now) names.now room }
 {
     let processes = table.process_count();
-    if processes == 0 {
-        return Err(WriteFault::NoProcess);
+    if processes == 0 || processes > limits::PROCESSES {
+        return Err(WriteFault::Processes);
     }
-    check_records(table)?;
+    check_limits(table)?;
+    check_records(&Kept::of(table))?;
     check_names(names, processes + table.signal_count())?;
     let size = names_byte(table) + names.len();
     if room < size {

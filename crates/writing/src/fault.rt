@@ -7,8 +7,8 @@ use refusal::fault::{Layer, Place, Refusal, TableFault};
 
 #[derive(Clone, Copy, Debug, PartialEq, Eq)]
 pub enum WriteFault {
-    /// The table has no process, which every sheet has.
-    NoProcess,
+    /// The table has no process, or more than a sheet counts.
+    Processes,
     /// A list, a process, a signal or an edge of the table.
     Table(TableFault),
     /// The name area, from this bit on.
@@ -31,7 +31,7 @@ impl From<WriteFault> for Refusal {
     fn from(fault: WriteFault) -> Refusal {
         let (number, layer, place) = match fault {
             WriteFault::Table(table) => return Refusal::from(table),
-            WriteFault::NoProcess => (3, Layer::Sheet, 8),
+            WriteFault::Processes => (3, Layer::Sheet, 8),
             WriteFault::Names(bit) => (6, Layer::Sheet, bit),
             WriteFault::Short(bytes) => (22, Layer::Output, bytes),
         };

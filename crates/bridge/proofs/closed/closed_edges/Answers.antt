@@ -1,7 +1,5 @@
 use Rattle.std.proofs.Common.{inl}
 use Rattle.closing.specs.Layers.{layered}
-use Rattle.marks.specs.Words.{marking}
-use Rattle.rules.proofs.Promised.{closed-measured}
 use Rattle.sheet.specs.Views.{lists_of, opened_of}
 use Rattle.bridge.proofs.closed.closed_edges.Goals as goal
 
@@ -15,6 +13,6 @@ returns-in-Ok c =
       holds = opened_of s;
       opens = h.opens;
       meaning = layered r.plan (lists_of r.below);
-      closed = closed-measured (lists_of s) (layered r.plan (lists_of r.below)) (marking c.in-Ok.field-0-2) h.tests.0 h.tests.1 h.closed;
+      closed = h.closes;
       sum = c.checksum.ensures;
     })

@@ -1,6 +1,6 @@
 use Rattle.std.proofs.Common.{true, Ok, sym, refl}
 use Rattle.std.proofs.lemmas.Result.{err_from_is_err_and}
-use Rattle.closing.proofs.Fitting.{measured-refused, meant_by, passed-room}
+use Rattle.closing.proofs.Fitting.{closed-planned, measured-refused, meant_by, passed-room}
 use Rattle.marks.specs.Words.{marking}
 use Rattle.refusal.specs.Refusals.{table_refusal}
 use Rattle.closing.proofs.close.close_tested.Goals as goal
@@ -15,3 +15,7 @@ pub returns-clause-meaning : goal.returns-clause-meaning
 returns-clause-meaning g c =
     let T = g.T.Table.lists c.args.table in
     meant_by T (marking c.in_ok-marks.marks) c.of-plan.result true c.of-plan.ensures (passed-room c.of-plan.result T (Ok c.in_ok-check_room.field-0) true (sym c.in_ok-marks.ensures.refused) c.in_ok-check_room.ensures refl)
+
+pub returns-clause-closes : goal.returns-clause-closes
+returns-clause-closes g c =
+    closed-planned (g.T.Table.lists c.args.table) (marking c.in_ok-marks.marks) c.of-plan.result c.in_ok-check_room.field-0 (sym c.in_ok-marks.ensures.refused) c.in_ok-marks.ensures.least c.of-plan.ensures c.in_ok-check_room.ensures

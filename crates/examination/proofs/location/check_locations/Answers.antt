@@ -8,10 +8,10 @@ pub returns-in-Some : goal.returns-in-Some
 unfolding locations_refused
 returns-in-Some g c =
     let T = g.T.Table.lists c.args.table.now in
-    let a = c.leaving-acting.result.flags in
-    let b = c.leaving-waiting.result.flags in
-    let ra = c.leaving-acting.ensures acts (λ e r k. search rules) in
-    let rb = c.leaving-waiting.ensures waits (λ e r k. search rules) in
+    let a = c.of-found.result.acting.flags in
+    let b = c.of-found.result.waiting.flags in
+    let ra = c.of-found.ensures.acting in
+    let rb = c.of-found.ensures.waiting in
     let m = found-alike T c.requires a b acts waits ra rb (λ (x y : Bool). x && y) in
     let n = c.find_location-mixed.ensures (λ p l. has_at a p l && has_at b p l) (λ s r k. search rules) in
     rw (← m, ← n, c.in-Some.is)
@@ -20,12 +20,12 @@ pub returns-in-Some-stuck : goal.returns-in-Some-stuck
 unfolding locations_refused
 returns-in-Some-stuck g c =
     let T = g.T.Table.lists c.args.table.now in
-    let a = c.leaving-acting.result.flags in
-    let b = c.leaving-waiting.result.flags in
-    let d = c.leaving-free.result.flags in
-    let ra = c.leaving-acting.ensures acts (λ e r k. search rules) in
-    let rb = c.leaving-waiting.ensures waits (λ e r k. search rules) in
-    let rd = c.leaving-free.ensures frees (λ e r k. search rules) in
+    let a = c.of-found.result.acting.flags in
+    let b = c.of-found.result.waiting.flags in
+    let d = c.of-found.result.free.flags in
+    let ra = c.of-found.ensures.acting in
+    let rb = c.of-found.ensures.waiting in
+    let rd = c.of-found.ensures.free in
     let m = found-alike T c.requires a b acts waits ra rb (λ (x y : Bool). x && y) in
     let s = found-alike T c.requires a d acts frees ra rd (λ (x y : Bool). x && not y) in
     let n = c.find_location-mixed.ensures (λ p l. has_at a p l && has_at b p l) (λ s r k. search rules) in
@@ -36,12 +36,12 @@ pub returns : goal.returns
 unfolding locations_refused
 returns g c =
     let T = g.T.Table.lists c.args.table.now in
-    let a = c.leaving-acting.result.flags in
-    let b = c.leaving-waiting.result.flags in
-    let d = c.leaving-free.result.flags in
-    let ra = c.leaving-acting.ensures acts (λ e r k. search rules) in
-    let rb = c.leaving-waiting.ensures waits (λ e r k. search rules) in
-    let rd = c.leaving-free.ensures frees (λ e r k. search rules) in
+    let a = c.of-found.result.acting.flags in
+    let b = c.of-found.result.waiting.flags in
+    let d = c.of-found.result.free.flags in
+    let ra = c.of-found.ensures.acting in
+    let rb = c.of-found.ensures.waiting in
+    let rd = c.of-found.ensures.free in
     let m = found-alike T c.requires a b acts waits ra rb (λ (x y : Bool). x && y) in
     let s = found-alike T c.requires a d acts frees ra rd (λ (x y : Bool). x && not y) in
     let n = c.find_location-mixed.ensures (λ p l. has_at a p l && has_at b p l) (λ s r k. search rules) in

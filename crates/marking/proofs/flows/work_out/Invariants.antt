@@ -3,4 +3,4 @@ use Rattle.marking.specs.Flows.{Standing}
 use Rattle.marking.proofs.flows.work_out.Given as goal
 
 abbrev pub invariant-loop-k : goal.invariant-loop-k
-invariant-loop-k g l = (length l.flows ≡ 2048) × Standing (g.T.Table.lists l.table) l.flows l.k
+invariant-loop-k g l = (length l.flows ≡ length l.initial.flows) × Standing (g.T.Table.lists l.table) l.flows l.k

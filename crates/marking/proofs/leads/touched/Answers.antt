@@ -1,5 +1,5 @@
 use Rattle.std.proofs.Common.{sym, ◌∙◌}
-use Rattle.marking.proofs.Leading.{dropped-untouched, others-untouched}
+use Rattle.marking.proofs.Touching.{dropped-untouched, others-untouched}
 use Rattle.marking.proofs.leads.touched.Goals as goal
 
 pub returns-in-None : goal.returns-in-None

@@ -1,40 +1,43 @@
-use Rattle.std.proofs.Common.{◌≡◌, drop, Err, string_bytes, sym, ap, ◌∙◌, inr, arith}
+use Rattle.std.proofs.Common.{◌≡◌, drop, Err, string_bytes, sym, ap, ◌∙◌, arith}
 use Rattle.std.proofs.lemmas.Result.{err_from_is_err_and}
 use Rattle.closing.specs.Layers.{layered}
 use Rattle.marks.specs.Words.{marking}
-use Rattle.sheet.specs.Views.{lists_of}
-use Rattle.sealing.proofs.Sealing.{refused-once, sealed, unrefused-view, unwritten}
+use Rattle.reading.specs.Opening.{names_in}
+use Rattle.sheet.specs.Views.{lists_of, opened_of}
+use Rattle.sealing.proofs.Fitting.{fits-any}
+use Rattle.sealing.proofs.Sealing.{held, refused-once, sealed, unrefused-view, writable}
 use Rattle.sealing.proofs.Summaries.{summarised}
 use Rattle.sealing.specs.declared.fault.SealError.TheVariants.{Refused}
 use Rattle.sealing.proofs.seal.seal.Goals as goal
+
+pub write_anew-requires : goal.write_anew-requires
+write_anew-requires c =
+    let s = c.in_ok-open.open in
+    let h = c.in_ok-open.ensures in
+    let bs = c.args.bytes.now in
+    let C = layered c.in_ok-open.closed.plan (lists_of c.in_ok-open.closed.below) in
+    let area = c.name_area.result.now in
+    let at : area ≡ drop s.names_at bs = c.name_area.ensures ∙ ap (drop s.names_at) h.bytes in
+    let names = held bs area s C h.opens h.inverse (λ i. omega (arith, c.type_inv.bytes i)) h.closes at h.place in
+    let w = writable bs area s C h.opens h.inverse (λ i. omega (arith, c.type_inv.bytes i)) h.closes at h.place in
+    record { writable = (names_in (opened_of s), names, w); room = fits-any (record { lists = C; names = names_in (opened_of s) }) w area names area }
 
 pub returns : goal.returns
 returns c =
     let s = c.in_ok-open.open in
     let h = c.in_ok-open.ensures in
     let bs = c.args.bytes.now in
-    let r = c.in_ok-open.closed in
-    let at : c.name_area.result.now ≡ drop s.names_at bs = c.name_area.ensures ∙ ap (drop s.names_at) h.bytes in
+    let C = layered c.in_ok-open.closed.plan (lists_of c.in_ok-open.closed.below) in
+    let M = marking c.in_ok-open.marks in
+    let area = c.name_area.result.now in
+    let at : area ≡ drop s.names_at bs = c.name_area.ensures ∙ ap (drop s.names_at) h.bytes in
     record {
       sealed =
-          sealed bs c.name_area.result.now s (layered r.plan (lists_of r.below)) (marking c.in_ok-open.marks) h.tests.0 h.opens h.inverse (λ i. omega (arith, c.type_inv.bytes i)) h.tests.1
-          h.closed at h.place c.in_ok-sheet.sheet.items c.in_ok-sheet.ensures.sheet;
-      summary = summarised bs (string_bytes c.in_ok-summary.summary) s (layered r.plan (lists_of r.below)) (marking c.in_ok-open.marks) h.tests.0 h.opens h.tests.1 h.closed c.in_ok-summary.ensures;
+          sealed bs area s C h.opens h.inverse (λ i. omega (arith, c.type_inv.bytes i)) h.closes at h.place c.in_ok-sheet.sheet.items c.in_ok-sheet.ensures;
+      summary = summarised bs (string_bytes c.in_ok-summary.summary) s C M h.tests.0 h.opens h.tests.1 h.closed c.in_ok-summary.ensures;
       refused = tt;
-      told = λ f k. absurd (unrefused-view bs f s (marking c.in_ok-open.marks, h.tests.0) k h.opens h.tests.1);
+      told = λ f k. absurd (unrefused-view bs f s (M, h.tests.0) k h.opens h.tests.1);
     }
-
-pub returns-in_err-sheet-clause-refused : goal.returns-in_err-sheet-clause-refused
-returns-in_err-sheet-clause-refused c =
-    let s = c.in_ok-open.open in
-    let h = c.in_ok-open.ensures in
-    let bs = c.args.bytes.now in
-    let r = c.in_ok-open.closed in
-    let at : c.name_area.result.now ≡ drop s.names_at bs = c.name_area.ensures ∙ ap (drop s.names_at) h.bytes in
-    let p = err_from_is_err_and c.from_residual-in_err-sheet.result c.from_residual-in_err-sheet.ensures.1 in
-    rw (p.1, p.2) (λ f k. inr
-    (unwritten bs c.name_area.result.now s (layered r.plan (lists_of r.below)) (marking c.in_ok-open.marks) h.tests.0 h.opens h.inverse (λ i. omega (arith, c.type_inv.bytes i)) h.tests.1
-    h.closed at h.place f (c.in_err-sheet.ensures.refused f k)))
 
 pub returns-in_err-sheet-clause-told : goal.returns-in_err-sheet-clause-told
 returns-in_err-sheet-clause-told c =

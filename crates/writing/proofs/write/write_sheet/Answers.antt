@@ -1,4 +1,4 @@
-use Rattle.std.proofs.Common.{length, take, arith, rules}
+use Rattle.std.proofs.Common.{length, take, arith}
 use Rattle.reading.proofs.Inverse.{inverse}
 use Rattle.writing.proofs.Sole.{bytes-taken, sole}
 use Rattle.writing.proofs.Wholes.{drop-written, is-written, written-passed}

@@ -1,36 +1,41 @@
-use Rattle.std.proofs.Common.{◌+◌, ◌/◌, ◌%◌, arith}
-use Rattle.loading.proofs.Following.{next-above}
-use Rattle.marking.specs.Spreading.{state}
-use Rattle.marking.proofs.Flowing.{carry-start, carry-next, carry-step, carry-end}
+use Rattle.std.proofs.Common.{◌≡◌, true, get_or}
+use Rattle.marking.specs.Instances.{holds}
+use Rattle.marking.specs.Leads.{at_start}
+use Rattle.marking.specs.Searching.{state}
+use Rattle.marks.proofs.Good.{good}
+use Rattle.marking.proofs.Carrying.{tested, nothing, carry-passed, carry-fed, read-followed, unread-followed}
+use Rattle.marking.proofs.Growing.{grew-then}
 use Rattle.marking.proofs.flows.Flows.carry.Goals as goal
 
-pub loop-k-init : goal.loop-k-init
-loop-k-init g c =
-    carry-start (g.T.Table.lists c.args.table.now) c.requires.good c.args.self.now c.requires.flowing c.args.word c.args.bits c.first_leaving-k.result
-    (state c.args.search.now) c.requires.location c.first_leaving-k.ensures
-
-pub loop-k-smaller : goal.loop-k-smaller
-loop-k-smaller g c =
+pub returns-then-bit-clause-followed : goal.returns-then-bit-clause-followed
+returns-then-bit-clause-followed g c e h =
     let T = g.T.Table.lists c.args.table.now in
-    let h = c.loop-k-test.true in
-    let e = c.edge_count.ensures in
-    let at =
-    carry-next (g.T.Table.lists c.args.table.now) c.requires.good c.args.self.now c.requires.flowing c.args.word c.loop-k.k c.next_leaving-k.result c.requires.location
-    (omega (arith, h, e)) c.loop-k.invariant.1 c.next_leaving-k.ensures in
-    let above = next-above T.edges (c.args.word / 16) (c.args.word % 16) (c.loop-k.k + 1) in
-    omega (arith, at, above, h, e)
+    let stands = c.requires.flowing.stand c.args.k e nothing c.requires.there h in
+    read-followed T (good T c.requires.flowing.good) c.args.k e h c.args.index c.requires.index (get_or c.args.self.now.flows.now c.args.k nothing) stands
+    (state c.pass.new.self) (state c.feed.new.search) (c.pass.ensures.passed T e stands) c.feed.ensures.grew c.feed.ensures.reached
 
-pub loop-k-preserved : goal.loop-k-preserved
-loop-k-preserved g c =
+pub returns-then-bit-clause-grew : goal.returns-then-bit-clause-grew
+returns-then-bit-clause-grew g c e h =
     let T = g.T.Table.lists c.args.table.now in
-    let at =
-    carry-next (g.T.Table.lists c.args.table.now) c.requires.good c.args.self.now c.requires.flowing c.args.word c.loop-k.k c.next_leaving-k.result c.requires.location
-    (omega (arith, c.loop-k-test.true, c.edge_count.ensures)) c.loop-k.invariant.1 c.next_leaving-k.ensures in
-    carry-step (g.T.Table.lists c.args.table.now) c.requires.good c.args.self.now c.requires.flowing c.args.word c.args.bits c.loop-k.k c.next_leaving-k.result
-    (state c.args.search.now) (state c.loop-k.search) (state c.carry.new.self) _ c.requires.location c.ranges.bits.fits
-    (omega (arith, c.loop-k-test.true, c.edge_count.ensures)) c.carry.ensures c.loop-k.invariant at
+    let G = good (g.T.Table.lists c.args.table.now) c.requires.flowing.good in
+    let f = get_or c.args.self.now.flows.now c.args.k nothing in
+    let stands = c.requires.flowing.stand c.args.k e nothing c.requires.there h in
+    grew-then T (λ N. holds N (at_start e c.args.index) ≡ true) (state c.args.search.now) (state c.pass.new.self) (state c.feed.new.search)
+    (carry-passed T G c.args.k e h c.args.index c.requires.index f stands (state c.args.search.now) (state c.pass.new.self) (c.pass.ensures.grew T e stands))
+    (carry-fed T G c.args.k e h c.args.index c.requires.index f stands (state c.pass.new.self) (state c.feed.new.search)
+    (tested f.read c.into.result c.args.index c.bit.result _ c.bit.ensures.value c.into.ensures c.if-bit.true) c.feed.ensures.grew)
 
-pub returns : goal.returns
-returns g c =
-    carry-end (g.T.Table.lists c.args.table.now) c.requires.good c.args.self.now c.requires.flowing c.args.word c.args.bits c.loop-k.k
-    (state c.args.search.now) (state c.loop-k.search) c.requires.location (omega (arith, c.loop-k-test.false, c.edge_count.ensures)) c.loop-k.invariant.0
+pub returns-else-bit-clause-grew : goal.returns-else-bit-clause-grew
+returns-else-bit-clause-grew g c e h =
+    let T = g.T.Table.lists c.args.table.now in
+    let stands = c.requires.flowing.stand c.args.k e nothing c.requires.there h in
+    carry-passed T (good T c.requires.flowing.good) c.args.k e h c.args.index c.requires.index (get_or c.args.self.now.flows.now c.args.k nothing) stands
+    (state c.args.search.now) (state c.pass.new.self) (c.pass.ensures.grew T e stands)
+
+pub returns-else-bit-clause-followed : goal.returns-else-bit-clause-followed
+returns-else-bit-clause-followed g c e h =
+    let T = g.T.Table.lists c.args.table.now in
+    let f = get_or c.args.self.now.flows.now c.args.k nothing in
+    let stands = c.requires.flowing.stand c.args.k e nothing c.requires.there h in
+    unread-followed T (good T c.requires.flowing.good) c.args.k e h c.args.index c.requires.index f stands (state c.pass.new.self) (c.pass.ensures.passed T e stands)
+    (tested f.read c.into.result c.args.index c.bit.result _ c.bit.ensures.value c.into.ensures c.if-bit.false)

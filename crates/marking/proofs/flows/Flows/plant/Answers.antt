@@ -1,13 +1,21 @@
-use Rattle.std.proofs.Common.{arith}
-use Rattle.marking.specs.Spreading.{state}
-use Rattle.marking.proofs.Flowing.{plant-step, plant-end}
+use Rattle.std.proofs.Common.{◌+◌, sym, ap, ◌∙◌, subst}
+use Rattle.marking.specs.Leads.{is_inbound}
+use Rattle.marking.specs.Searching.{state}
+use Rattle.marking.proofs.Giving.{Planted, plant-step, pass-step}
 use Rattle.marking.proofs.flows.Flows.plant.Goals as goal
+use Rattle.marking.proofs.flows.Flows.plant.Goals.{in-Inbound, in_default}
 
-pub loop-k-preserved : goal.loop-k-preserved
-loop-k-preserved g c =
-    plant-step (g.T.Table.lists c.args.table.now) c.requires.good c.args.self.now c.requires.flowing c.loop-k.k
-    (state c.args.search.now) (state c.loop-k.search) (state c.plant.new.self) _ (omega (arith, c.loop-k-test.true, c.edge_count-k-end.ensures)) c.plant.ensures c.loop-k.invariant
-
-pub returns : goal.returns
-returns g c =
-    plant-end (g.T.Table.lists c.args.table.now) c.loop-k.k (state c.args.search.now) (state c.loop-k.search) (omega (arith, c.loop-k-test.false, c.edge_count-k-end.ensures)) c.loop-k.invariant
+pub loop-signal-preserved : goal.loop-signal-preserved
+loop-signal-preserved g c =
+    let T = g.T.Table.lists c.args.table.now in
+    let n = c.loop-signal.signal in
+    let s = state c.args.search.now in
+    elim c.match-class_of.branch [
+      | in-Inbound w ↦
+          subst (λ q. Planted T (c.loop-signal.signal + 1) s (state q)) (sym w.search-is)
+          (plant-step T n s (state c.loop-signal.search) (state w.give.new.search) c.loop-signal-test.true (ap is_inbound (sym c.class_of.ensures ∙ w.in-Inbound.is)) c.loop-signal.invariant
+          (w.give.ensures.given c.loop-signal-test.true) w.give.ensures.grew)
+      | in_default w ↦
+          subst (λ q. Planted T (c.loop-signal.signal + 1) s (state q)) (sym w.search-is)
+          (pass-step T n s (state c.loop-signal.search) (λ q. w.in_default.not-Inbound (c.class_of.ensures ∙ q)) c.loop-signal.invariant)
+    ]

@@ -1,4 +1,3 @@
-use Rattle.std.proofs.Common.{refl}
 use Rattle.stepping.specs.Worlds.{turned}
 use Rattle.stepping.proofs.Worlds.{world-changed}
 use Rattle.stepping.proofs.state.State.turn.Goals as goal
@@ -6,4 +5,4 @@ use Rattle.stepping.proofs.state.State.turn.Goals as goal
 pub returns-clause-world : goal.returns-clause-world
 returns-clause-world c m =
     let s = c.args.self.now in
-    world-changed s m c.args.p c.index-self-p.result c.requires c.turn.new.self (turned c.args.timer c.args.setting) _ refl (c.turn.ensures _)
+    world-changed s m c.args.p c.index-self-p.result c.requires c.turn.new.self (turned c.args.timer c.args.setting) c.turn.ensures
