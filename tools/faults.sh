@@ -6,7 +6,7 @@
 # The status is 1 where a fault cannot be tried, or survives and faults/survivors.txt does not say why.
 set -uo pipefail
 cd "$(dirname "$0")/.." || exit
-[ $# -gt 0 ] || set -- $(sed -n 's/^\([a-z]*\):.*/\1/p' crates.txt)
+[ $# -gt 0 ] || set -- $(sed -n 's/^\([a-z]*\)[ a-z]*:.*/\1/p' crates.txt)
 copy=$(mktemp -d)
 trap 'rm -rf "$copy"' EXIT
 cp -a . "$copy/all" && cd "$copy/all" || exit
@@ -46,14 +46,15 @@ build() {
     [ -f "crates/$1/out/$1" ]
 }
 
-# Whether program $1 writes what its file stdout has.
+# Whether program $1 writes what its file stdout has, and ends as its file status says.
 writes() {
     local crate=$PWD/crates/$1 data args=() given=/dev/null
     data=$(mktemp -d -p "$copy")
     [ ! -d "$crate/data" ] || cp "$crate"/data/* "$data"
     [ ! -f "$crate/args" ] || mapfile -t args <"$crate/args"
     [ ! -f "$crate/stdin" ] || given=$crate/stdin
-    (cd "$data" && "$crate/out/$1" "${args[@]}" <"$given" 2>/dev/null) | cmp -s - "$crate/stdout"
+    (cd "$data" && "$crate/out/$1" "${args[@]}" <"$given" >"$copy/wrote" 2>/dev/null)
+    [ $? -eq "$(cat "$crate/status" 2>/dev/null || echo 0)" ] && cmp -s "$copy/wrote" "$crate/stdout"
 }
 
 # What notices a fault that the contracts of crate $1 let through; it stands planted, and $2 is its edit.

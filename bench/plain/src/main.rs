@@ -13,29 +13,40 @@ use plain::trace::{self, Answer};
 use plain::{Plan, Refusal, Sheet, Step, examine, mark, open, write};
 
 const USAGE: &str = "usage:
-    plain marks < SHEET               lists the marks
-    plain close < SHEET > CLOSED      closes, with a summary on standard error
-    plain resheet [FILE]..            writes each sheet again, and says whether it is the same
+    plain marks [SHEET]               lists the marks
+    plain close [SHEET] > CLOSED      closes, with a summary on standard error
+    plain resheet [SHEET]..           writes each sheet again, and says whether it is the same
     plain trace SHEET < STEPS         runs from the start; an answer for each step, then the end
     plain random SEED COUNT FOLDER    writes sheets, and a trace for each that opens
 
 steps, one a line: E signal value, M edge, D process, X process timer, K";
 
-type Outcome = Result<(), Box<dyn Error>>;
+/// The bytes of the largest sheet, and one more.
+const ROOM: u64 = 27_079;
+
+/// How a run ends: with everything done, or with a refusal that has been told.
+#[derive(Clone, Copy, PartialEq, Eq)]
+enum End {
+    Done,
+    Refused,
+}
+
+type Outcome = Result<End, Box<dyn Error>>;
 
 fn main() -> ExitCode {
     let arguments: Vec<String> = std::env::args().skip(1).collect();
     let arguments: Vec<&str> = arguments.iter().map(String::as_str).collect();
     let outcome = match *arguments {
-        ["marks"] => marks(),
-        ["close"] => close(),
+        ["marks", ref file @ ..] if file.len() < 2 => marks(file.first().copied()),
+        ["close", ref file @ ..] if file.len() < 2 => close(file.first().copied()),
         ["resheet", ref files @ ..] => resheet(files),
         ["trace", sheet] => run_trace(sheet),
         ["random", seed, count, folder] => make_random(seed, count, folder),
         _ => Err(USAGE.into()),
     };
     match outcome {
-        Ok(()) => ExitCode::SUCCESS,
+        Ok(End::Done) => ExitCode::SUCCESS,
+        Ok(End::Refused) => ExitCode::FAILURE,
         Err(error) => {
             eprintln!("{error}");
             ExitCode::FAILURE
@@ -43,24 +54,44 @@ fn main() -> ExitCode {
     }
 }
 
+/// What standard input holds, up to what a sheet can have.
 fn read_input() -> io::Result<Vec<u8>> {
+    read_sheet(io::stdin().lock())
+}
+
+fn read_sheet(from: impl Read) -> io::Result<Vec<u8>> {
     let mut bytes = Vec::new();
-    io::stdin().lock().read_to_end(&mut bytes)?;
+    from.take(ROOM).read_to_end(&mut bytes)?;
     Ok(bytes)
 }
 
-/// Writes bytes, or the line of a refusal in their place.
-fn answer(bytes: Result<impl AsRef<[u8]>, Refusal>) -> Outcome {
-    let mut output = io::stdout().lock();
-    match bytes {
-        Ok(bytes) => output.write_all(bytes.as_ref())?,
-        Err(refusal) => writeln!(output, "{refusal}")?,
-    }
-    Ok(output.flush()?)
+/// The file that is named, or standard input.
+fn read_named(file: Option<&str>) -> Result<Vec<u8>, Box<dyn Error>> {
+    let read = match file {
+        None | Some("-") => read_input(),
+        Some(name) => fs::File::open(name).and_then(read_sheet),
+    };
+    read.map_err(|error| format!("{}: {error}", file.unwrap_or("standard input")).into())
 }
 
-fn marks() -> Outcome {
-    answer(list_marks(&read_input()?))
+/// Writes bytes to standard output, or the line of a refusal to where it belongs.
+fn answer(bytes: Result<impl AsRef<[u8]>, Refusal>, mut refusals: impl Write) -> Outcome {
+    match bytes {
+        Ok(bytes) => {
+            let mut output = io::stdout().lock();
+            output.write_all(bytes.as_ref())?;
+            output.flush()?;
+            Ok(End::Done)
+        }
+        Err(refusal) => {
+            writeln!(refusals, "{refusal}")?;
+            Ok(End::Refused)
+        }
+    }
+}
+
+fn marks(file: Option<&str>) -> Outcome {
+    answer(list_marks(&read_named(file)?), io::stdout())
 }
 
 fn list_marks(bytes: &[u8]) -> Result<String, Refusal> {
@@ -69,12 +100,12 @@ fn list_marks(bytes: &[u8]) -> Result<String, Refusal> {
     Ok(mark(&table).listing(&table))
 }
 
-fn close() -> Outcome {
-    let closed = close_sheet(&read_input()?);
+fn close(file: Option<&str>) -> Outcome {
+    let closed = close_sheet(&read_named(file)?);
     if let Ok((_, summary)) = &closed {
         eprint!("{summary}");
     }
-    answer(closed.map(|(sheet, _)| sheet))
+    answer(closed.map(|(sheet, _)| sheet), io::stderr())
 }
 
 fn close_sheet(bytes: &[u8]) -> Result<(Vec<u8>, String), Refusal> {
@@ -85,24 +116,37 @@ fn close_sheet(bytes: &[u8]) -> Result<(Vec<u8>, String), Refusal> {
 
 fn resheet(files: &[&str]) -> Outcome {
     if files.is_empty() {
-        return answer(compare("standard input", &read_input()?));
+        return tell_again("", None);
     }
+    let mut end = End::Done;
     for file in files {
-        let name = Path::new(file).file_name().unwrap_or_default().to_string_lossy();
-        answer(compare(&name, &fs::read(file)?))?;
+        let told = tell_again(&format!("{file}: "), Some(file)).unwrap_or_else(|error| {
+            eprintln!("{error}");
+            End::Refused
+        });
+        if told == End::Refused {
+            end = End::Refused;
+        }
     }
-    Ok(())
+    Ok(end)
 }
 
-fn compare(file: &str, bytes: &[u8]) -> Result<String, Refusal> {
+/// A line about one sheet, which begins with `name`.
+fn tell_again(name: &str, file: Option<&str>) -> Outcome {
+    let bytes = read_named(file)?;
+    print!("{name}");
+    answer(compare(&bytes), io::stdout())
+}
+
+fn compare(bytes: &[u8]) -> Result<String, Refusal> {
     let Sheet { table, names } = open(bytes)?;
     let again = write(&table, names)?;
     let verdict = match bytes.iter().zip(&again).position(|(one, other)| one != other) {
         None if bytes.len() == again.len() => "the same again".to_owned(),
-        from => format!("not the same from byte {} on", from.unwrap_or(bytes.len().min(again.len()))),
+        from => format!("different from byte {} on", from.unwrap_or(bytes.len().min(again.len()))),
     };
     Ok(format!(
-        "{file}: {} processes, {} signals, {} edges, {} terms, {} names; {} bytes, {verdict}\n",
+        "{} processes, {} signals, {} edges, {} terms, {} names; {} bytes, {verdict}\n",
         table.processes.len(),
         table.signals.len(),
         table.edges.len(),
@@ -116,12 +160,13 @@ fn run_trace(file: &str) -> Outcome {
     let bytes = fs::read(file)?;
     let text = String::from_utf8(read_input()?)?;
     let steps = text.lines().map(str::parse).collect::<Result<Vec<Step>, _>>()?;
-    answer(open(&bytes).and_then(|sheet| trace::run(&sheet.table, &steps)).map(|run| {
+    let run = open(&bytes).and_then(|sheet| trace::run(&sheet.table, &steps)).map(|run| {
         let mut lines = String::with_capacity(4 * run.answers.len());
         let mut line = |answer: &Answer| writeln!(lines, "{answer}").expect("a string takes any text");
         run.answers.iter().for_each(&mut line);
         lines + &run.end.to_string() + &format!("digest {:016x}\n", run.end.digest())
-    }))
+    });
+    answer(run, io::stdout())
 }
 
 fn make_random(seed: &str, count: &str, folder: &str) -> Outcome {
@@ -139,5 +184,5 @@ fn make_random(seed: &str, count: &str, folder: &str) -> Outcome {
             fs::write(folder.join(format!("{number}.trace")), lines)?;
         }
     }
-    Ok(())
+    Ok(End::Done)
 }

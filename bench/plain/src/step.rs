@@ -32,7 +32,7 @@ pub enum Step {
     Tick,
 }
 
-/// A state. Its messages lie in memory lent to each call, those of process p in the sixteen places from 16 × p on.
+/// A state. Each call is lent the memory of its messages: sixteen places for each process, in the order of the processes.
 #[derive(Clone, Copy, Debug, Default)]
 pub struct State {
     count: usize,

@@ -3,7 +3,7 @@
 --   Follows s es t     the calls es on the book s, one after the other, were answered as es says and left t
 --   is_accepted r      the answer is no refusal
 --   is_edit, is_mark   an accepted edit; an accepted marking
---   MarkedSince es     an accepted marking followed the last accepted edit
+--   MarkedSince es     the book was marked, and since then no edit was accepted
 --   built T es         the lists T after the accepted edits among es
 --   Kept T o           marks that are kept are the least of the lists as they are, and the lists pass the test
 --   Told es t          what holds of a new book after the calls es, which left t

@@ -17,7 +17,7 @@ use closing::test::measure;
 use table::record::{Edge, Term};
 
 impl Book {
-    /// Tests the book and keeps its marks; answers how many there are.
+    /// Tests the table that the book is, and where it passes keeps its least marks; answers how many they are.
     #[tactic(auto, using(crate::proofs::Histories::marking_call))]
     pub fn mark(&mut self, edges: &[Edge], terms: &[Term]) -> Result<usize, BookFault>
         ensures does { Dealt (lacking self.old edges.now terms.now) (room edges.now terms.now) mark (pages self.old edges.now terms.now) (said result) (pages self.new edges.now terms.now) }

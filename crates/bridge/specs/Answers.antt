@@ -2,7 +2,9 @@
 --   CountedBy o bs n    n packs the refusal o, or else is the number of the least marks of the table of the sheet bs
 --   Counted bs n        the same, o being the refusal of the sheet bs
 --   Written xs n old new   xs has n bytes, and new is old with it, if there was room
---   Shown bs n old new  the listing of the sheet bs has n bytes, and new is old with it, if there was room; or else there was no memory
+--   refused_text r      the refusal r on a line of its own
+--   Described bs text   text lists the marks of the sheet bs, or says why it is refused
+--   Shown bs n old new  such a text has n bytes, and new is old with it, if there was room; or else there was no memory
 --   Sealing bs n old new   the sheet bs is closed as a sheet of n bytes, and new is old with it, if there was room; or n packs the refusal
 --   Summed bs n         n is the sum over the edges of the closed table of the sheet bs, or packs the refusal
 --   RunsTo T W ss n old new   the steps ss made from the world W on: answers and end have n bytes, and new is old with them, if there was room
@@ -11,7 +13,7 @@
 --   answers_of es      what the entries es answer, as numbers
 --   Booked bs n old new   all calls of bs made: the answers, the book and what closing it means have n bytes, and new is old with them, if
 --                       there was room
-use Rattle.std.specs.Prelude.{◌≡◌, ℕ, ◌⊎◌, List, ◌++◌, length, map, replicate, Some, None, Ok, Err, Option, Result}
+use Rattle.std.specs.Prelude.{◌≡◌, ℕ, ◌⊎◌, List, ◌++◌, codes, length, map, replicate, Some, None, Ok, Err, Option, Result}
 use Rattle.book.specs.Calls.{Pages, empty}
 use Rattle.book.specs.Histories.{ClosesAs, Entry, Follows}
 use Rattle.bridge.specs.Calls.{call_count, calls_to, room_in}
@@ -20,10 +22,11 @@ use Rattle.bridge.specs.Laid.{fitted, spelled}
 use Rattle.bridge.specs.Sums.{checksum}
 use Rattle.bridge.specs.Tables.{words_of}
 use Rattle.bridge.specs.Traces.{traced}
-use Rattle.listing.specs.Listing.{Listed, MarkedOf, refused_by}
-use Rattle.marks.specs.Rules.{Marking}
+use Rattle.listing.specs.Listing.{Listed, refused_by}
+use Rattle.marks.specs.Rules.{Marking, Least}
 use Rattle.marks.specs.Words.{total}
 use Rattle.reading.specs.Opening.{Opened, opened}
+use Rattle.refusal.specs.Reports.{refusal_text}
 use Rattle.refusal.specs.declared.fault.Refusal.{Refusal}
 use Rattle.rules.specs.Promise.{ClosedBy}
 use Rattle.rules.specs.States.{World, start_refused, started}
@@ -32,7 +35,7 @@ use Rattle.table.specs.Lists.{Lists}
 
 abbrev pub CountedBy : Option Refusal → List ℕ → ℕ → Type 0
 CountedBy (Some r) bs n = n ≡ packed r
-CountedBy None bs n = (T : Lists) × (M : Marking) × (MarkedOf (opened bs) T M × (n ≡ total M))
+CountedBy None bs n = (o : Opened) × (opened bs ≡ Ok o) × (M : Marking) × Least o.lists M × (n ≡ total M)
 
 abbrev pub Counted : List ℕ → ℕ → Type 0
 Counted bs n = CountedBy (refused_by bs) bs n
@@ -46,8 +49,14 @@ Written xs n old new = (n ≡ length xs) × (new ≡ fitted xs old)
 abbrev pub Refused : Refusal → ℕ → List ℕ → List ℕ → Type 0
 Refused r n old new = (n ≡ packed r) × (new ≡ old)
 
+abbrev pub refused_text : Refusal → List ℕ
+refused_text r = refusal_text r ++ codes "\n"
+
+abbrev pub Described : List ℕ → List ℕ → Type 0
+Described bs text = Listed bs text ⊎ ((r : Refusal) × (refused_by bs ≡ Some r) × (text ≡ refused_text r))
+
 abbrev pub Shown : List ℕ → ℕ → List ℕ → List ℕ → Type 0
-Shown bs n old new = ((text : List ℕ) × Listed bs text × Written text n old new) ⊎ OutOfMemory n old new
+Shown bs n old new = ((text : List ℕ) × Described bs text × Written text n old new) ⊎ OutOfMemory n old new
 
 abbrev pub Sealing : List ℕ → ℕ → List ℕ → List ℕ → Type 0
 Sealing bs n old new =

@@ -28,3 +28,12 @@ fn the_marks_of_the_worked_example_are_listed(rt: HostRuntime) {
     assert_eq!(rt; funavolem_marks(rt.alloc(), &EXAMPLE, &mut output), 57);
     assert_eq!(rt; output, *MARKS);
 }
+
+#[test]
+fn a_refusal_has_a_line(rt: HostRuntime) {
+    let mut output = [7; 19];
+    assert_eq!(rt; funavolem_marks(rt.alloc(), &[], &mut output[..17]), 18);
+    assert_eq!(rt; output, [7; 19]);
+    assert_eq!(rt; funavolem_marks(rt.alloc(), &[], &mut output), 18);
+    assert_eq!(rt; output, *b"refused 1 sheet 0\n\x07");
+}

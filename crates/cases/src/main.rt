@@ -1,18 +1,30 @@
 //! Lists the marks of many small sheets, good and damaged, and of the largest, and says what closing does to two of them and to the
-//! largest that closes; what it writes is compared with what is expected. Of piles of closing layers it says how much they ask.
+//! largest that closes; what it writes is compared with what is expected. Of piles of closing layers it says how much they ask. It
+//! shows the sentence of each refusal, and what comes of the words that programs are given.
 //! A line of the file `cases.txt` is a name, a colon, and the bytes of a sheet in hexadecimal.
 #![tactic(auto)]
 
 mod piles;
+mod uses;
+mod watched;
 
 use listing::list;
 use piles::tell_piles;
-use refusal::fault::Refusal;
-use sealing::fault::SealError;
+use reasons::sentence::Sentence;
+use refusal::failure::Failure;
+use refusal::fault::{Layer, Place, Refusal};
 use sealing::seal::seal;
 use sheet::opening::open_sheet;
+use shell::words::take_none;
 use std::alloc::{AllocError, Global};
-use std::fs;
+use std::process::ExitCode;
+use std::{env, fs};
+use uses::show_uses;
+
+const NAME: &str = "cases";
+
+const ABOUT: &str =
+    "Lists, closes and explains many sheets, and uses the programs as people do, to be compared";
 
 fn digit(b: u8) -> Option<u8> {
     match b {
@@ -39,11 +51,22 @@ fn bytes_of(heap: Global, text: &str) -> Result<Vec<u8>, AllocError> {
     Ok(bytes)
 }
 
-/// The last line of the sheet's listing, after its name.
+/// The refusal of the sheet in these bytes, and the sentence that explains it.
+fn tell_refusal(rt: &HostRuntime, refusal: Refusal, sheet: &[u8]) -> anyhow::Result<()> {
+    println!(rt; "{refusal}")?;
+    let sentence = Sentence::of_sheet(refusal, sheet);
+    println!(rt; "    {sentence}")?;
+    Ok(())
+}
+
+/// The last line of the sheet's listing, after its name; or why there is none.
 fn tell(rt: &HostRuntime, name: &str, sheet: &[u8]) -> anyhow::Result<()> {
-    let text = list(rt.alloc(), sheet)?;
-    let last = text.as_str().lines().last().unwrap_or("");
-    println!(rt; "{name}: {last}")?;
+    print!(rt; "{name}: ")?;
+    match list(rt.alloc(), sheet) {
+        Ok(text) => println!(rt; "{}", text.as_str().lines().last().unwrap_or(""))?,
+        Err(Failure::Refused(refusal)) => tell_refusal(rt, refusal, sheet)?,
+        Err(Failure::OutOfMemory) => return Err(AllocError.into()),
+    }
     Ok(())
 }
 
@@ -51,8 +74,8 @@ fn tell(rt: &HostRuntime, name: &str, sheet: &[u8]) -> anyhow::Result<()> {
 fn tell_closed(rt: &HostRuntime, sheet: &[u8]) -> anyhow::Result<()> {
     match seal(rt.alloc(), sheet) {
         Ok(sealed) => rt.print(sealed.summary.as_str())?,
-        Err(SealError::Refused(refusal)) => println!(rt; "{refusal}")?,
-        Err(SealError::OutOfMemory) => return Err(AllocError.into()),
+        Err(Failure::Refused(refusal)) => tell_refusal(rt, refusal, sheet)?,
+        Err(Failure::OutOfMemory) => return Err(AllocError.into()),
     }
     Ok(())
 }
@@ -61,11 +84,37 @@ fn tell_closed(rt: &HostRuntime, sheet: &[u8]) -> anyhow::Result<()> {
 fn tell_piled(rt: &HostRuntime, sheet: &[u8]) -> anyhow::Result<()> {
     match open_sheet(sheet) {
         Ok(table) => tell_piles(rt, &table),
-        Err(fault) => {
-            println!(rt; "{}", Refusal::from(fault))?;
-            Ok(())
-        }
+        Err(fault) => tell_refusal(rt, Refusal::from(fault), sheet),
     }
+}
+
+/// The sentence of each refusal that none of the sheets here meets.
+fn tell_without_sheets(rt: &HostRuntime) -> anyhow::Result<()> {
+    let refusals: [(u8, Layer, usize); 12] = [
+        (3, Layer::Table, 1),
+        (9, Layer::Book, 5),
+        (14, Layer::Test, 2049),
+        (15, Layer::Book, 8),
+        (16, Layer::Book, 7),
+        (17, Layer::Book, 0),
+        (18, Layer::State, 0),
+        (18, Layer::State, 1),
+        (19, Layer::State, 7),
+        (20, Layer::State, 1),
+        (21, Layer::State, 1),
+        (22, Layer::Output, 104),
+    ];
+    for (number, layer, place) in refusals {
+        let refusal = Refusal {
+            number,
+            layer,
+            place: Place::At(place),
+            sheet: None,
+        };
+        println!(rt; "{refusal}")?;
+        println!(rt; "    {}", Sentence::of(refusal))?;
+    }
+    Ok(())
 }
 
 fn run(rt: &HostRuntime) -> anyhow::Result<()> {
@@ -83,9 +132,16 @@ fn run(rt: &HostRuntime) -> anyhow::Result<()> {
     tell_closed(rt, &largest)?;
     tell_piled(rt, &gate)?;
     let closing = fs::read(rt, "closing.sheet")?;
-    tell_closed(rt, &closing)
+    tell_closed(rt, &closing)?;
+    tell_without_sheets(rt)?;
+    show_uses(rt, &gate, &largest)
 }
 
-fn main(rt: HostRuntime) -> anyhow::Result<()> {
-    run(&rt)
+fn main(rt: HostRuntime) -> anyhow::Result<ExitCode> {
+    let words: Vec<String> = env::args(&rt)?.collect(rt.alloc())?;
+    if let Some(status) = take_none(&rt, rt.alloc(), NAME, ABOUT, words.as_slice())? {
+        return Ok(ExitCode::from(status));
+    }
+    run(&rt)?;
+    Ok(ExitCode::SUCCESS)
 }

@@ -8,7 +8,7 @@ use survey::marked::is_marked;
 use table::questions::{Table, class_of};
 use table::record::{Class, Edge, Kind, Mode, Span};
 
-/// An input that waits for chaos: a rearm of the chaos timer to 0.
+/// An input that waits for chaos: a rearm to 0 of its process's chaos timer.
 fn waiting(edge: &Edge, timer: u8) -> Edge
     ensures { result ≡ changed waits false timer edge.now }
 {

@@ -11,14 +11,14 @@ use table::limits;
 use table::questions::Table;
 use table::record::{Class, Edge, Process, Signal, Term, Timer};
 
-/// Holds the table below by value. Without a plan it is that table.
+/// Owns the table below. Without a plan it is that table.
 #[derive(Drop)]
 pub struct Layer<T> {
     pub(crate) below: T,
     pub(crate) plan: Option<Plan>,
 }
 
-/// Inbound and outbound signals become absent.
+/// What came from the surroundings or went there is absent.
 fn closed_signal(signal: Signal) -> Signal
     ensures { result ≡ closed_signal signal }
 {

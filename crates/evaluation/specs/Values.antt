@@ -1,5 +1,5 @@
 -- The value of a postfix expression. A stack is the list of its values, the top first; vars are the values of the
--- variables, numbered from 0; numbers go from −32768 to 32767, and sums and differences wrap by 65,536.
+-- variables, numbered from 0; numbers go from −32768 to 32767; what a sum or a difference passes that by is wrapped round.
 --   truth b               1 where b is true, else 0
 --   same a b              a and b are the same number
 --   combined o a b        what an operation of two operands gives of a and, on top of it, b; 0 for the others, which take fewer

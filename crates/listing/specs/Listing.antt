@@ -4,26 +4,20 @@
 --   instance_text m ..   that line where the instance is marked, else nothing
 --   sort_text s M p l n  the line of variable or timer n
 --   location_text M r p l the lines of location l of process p, whose record is r: variables, then timers
---   listing_text T M     the lines of the table T in order, then the count of marks and of instances
---   refused_text r       a refusal on a line of its own
---   refused_by bs        the refusal of the sheet bs: that of opening it, else that of its table's examination
---   MarkedOf o T M       the sheet was opened as o: T is its table, and M are the least marks of that
---   Judged bs j          the view and marks j are of the sheet bs
---   Listed bs text       text says why the sheet bs is refused, or else lists the least marks of its table
+--   listing_text T M     the lines of the table T in order, and a last one with both counts
+--   refused_of r         the refusal of a sheet that opens as r: that of opening it, else that of its table's examination
+--   refused_by bs        the refusal of the sheet bs
+--   Listed bs text       the sheet bs opens, its table passes the examination, and text lists the least marks of that
 use Rattle.std.specs.Prelude.{◌≡◌, ℕ, zero, suc, ◌+◌, Bool, cond, List, [], ◌++◌, length, take, Some, None, Ok, Err, codes, decimal, sum_by, Option, Result, slice_index_or}
 use Rattle.marks.specs.Instances.{of_process}
 use Rattle.marks.specs.Rules.{Marking, Least}
-use Rattle.marks.specs.Words.{is_marked, letter, marking, total}
-use Rattle.marks.specs.declared.marks.Marks.{Marks}
+use Rattle.marks.specs.Words.{is_marked, letter, total}
 use Rattle.marks.specs.declared.marks.Sort.{Sort}
 use Rattle.marks.specs.declared.marks.Sort.TheVariants.{Variable, Timer}
 use Rattle.reading.specs.Opening.{Opened, opened}
-use Rattle.sheet.specs.Views.{lists_of}
-use Rattle.sheet.specs.declared.view.Sheet.{Sheet}
 use Rattle.table.specs.Edges.{blank}
 use Rattle.table.specs.Examination.{examined}
 use Rattle.table.specs.Lists.{Lists, Proc}
-use Rattle.refusal.specs.Reports.{refusal_text}
 use Rattle.refusal.specs.declared.fault.Refusal.{Refusal}
 
 unfoldable pub each_from : (ℕ → List ℕ) → ℕ → ℕ → List ℕ
@@ -54,9 +48,6 @@ count_text T M = decimal (total M) ++ (codes " of " ++ (decimal (sum_by of_proce
 abbrev pub listing_text : Lists → Marking → List ℕ
 listing_text T M = each_from (table_text T M) 0 (length T.processes) ++ count_text T M
 
-abbrev pub refused_text : Refusal → List ℕ
-refused_text r = refusal_text r ++ codes "\n"
-
 abbrev pub refused_of : Result Opened Refusal → Option Refusal
 refused_of (Err r) = Some r
 refused_of (Ok c) = examined c.lists
@@ -64,16 +55,10 @@ refused_of (Ok c) = examined c.lists
 abbrev pub refused_by : List ℕ → Option Refusal
 refused_by bs = refused_of (opened bs)
 
-abbrev pub MarkedOf : Result Opened Refusal → Lists → Marking → Type 0
-MarkedOf (Err r) T M = ⊥
-MarkedOf (Ok c) T M = (T ≡ c.lists) × Least T M
-
-abbrev pub Judged : List ℕ → Sheet × Marks → Type 0
-Judged bs j = MarkedOf (opened bs) (lists_of j.0) (marking j.1)
-
-abbrev pub ListedBy : Option Refusal → List ℕ → List ℕ → Type 0
-ListedBy (Some r) bs text = text ≡ refused_text r
-ListedBy None bs text = (T : Lists) × (M : Marking) × (MarkedOf (opened bs) T M × (text ≡ listing_text T M))
-
-abbrev pub Listed : List ℕ → List ℕ → Type 0
-Listed bs text = ListedBy (refused_by bs) bs text
+pub record Listed (bs text : List ℕ) : Type 0 where
+  pub holds : Opened
+  pub opens : opened bs ≡ Ok holds
+  pub passes : examined holds.lists ≡ None
+  pub marks : Marking
+  pub least : Least holds.lists marks
+  pub says : text ≡ listing_text holds.lists marks

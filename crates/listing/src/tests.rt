@@ -1,5 +1,7 @@
 //! That the calls succeed where there is memory, and what they answer then.
 use crate::list;
+use refusal::failure::Failure;
+use refusal::fault::{Layer, Place, Refusal};
 
 /// One process of one location, called a.
 const SMALLEST: [u8; 10] = [0x01, 0x10, 0, 0, 0, 0, 0, 0, 0x01, 0x61];
@@ -17,15 +19,25 @@ const MARKS: &str = "0 0 x0\n0 1 x0\n0 2 x0\n1 0 x0\n1 0 t0\n1 1 x0\n1 1 t0\n7 o
 
 #[test]
 fn sheets_are_listed(rt: HostRuntime) {
-    let cases: [(&[u8], &str); 3] = [
-        (&SMALLEST, "0 of 0\n"),
-        (&EXAMPLE, MARKS),
-        (&[], "refused 1 sheet 0\n"),
-    ];
+    let cases: [(&[u8], &str); 2] = [(&SMALLEST, "0 of 0\n"), (&EXAMPLE, MARKS)];
     for (sheet, listing) in cases {
         match list(rt.alloc(), sheet) {
             Ok(text) => assert_eq!(rt; text.as_str(), listing),
-            Err(error) => panic!(rt; "{error:?}"),
+            Err(failure) => panic!(rt; "{failure:?}"),
         }
+    }
+}
+
+#[test]
+fn refusals_are_told(rt: HostRuntime) {
+    let no_sheet = Refusal {
+        number: 1,
+        layer: Layer::Sheet,
+        place: Place::At(0),
+        sheet: None,
+    };
+    match list(rt.alloc(), &[]) {
+        Ok(text) => panic!(rt; "{text}"),
+        Err(failure) => assert_eq!(rt; failure, Failure::Refused(no_sheet)),
     }
 }

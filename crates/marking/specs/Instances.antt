@@ -1,4 +1,4 @@
--- Instances as bits of words, one word for each location: location l of process p is 16 * p + l, variable n is bit n, timer n is bit 8 + n.
+-- Instances as bits of words, one word for each location: location l of process p is 16 * p + l, variables have the low eight bits, timers the high eight.
 --   Fits i         there is a bit for the instance i
 --   has ws i       the words ws have the instance i
 --   given ss n     the signal n is one of those in ss

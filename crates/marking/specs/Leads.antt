@@ -3,7 +3,7 @@
 --   at_start e b          the variable or timer of bit b where the edge e begins
 --   at_end e b            the same where it ends
 --   received e            the variable that the input e stores, where e ends
---   touches e b           the edge e stores, sets, resets, times out or rearms what has bit b
+--   touches e b           the edge e writes what has bit b: stores it, or does something to that timer
 --   is_internal, is_inbound the class of a signal
 --   fed T e               what a marked value of e marks: a variable, a timer or an internal signal
 use Rattle.std.specs.Prelude.{◌≡◌, ℕ, ◌+◌, ◌*◌, ◌<◌, Bool, true, false, cond, not, ◌&&◌, Some, None, Option, ◌==◌}

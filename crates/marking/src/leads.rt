@@ -40,7 +40,7 @@ pub fn received(edge: &Edge) -> Option<Instance>
     }
 }
 
-/// What the edge stores, sets, resets, times out or rearms.
+/// The instance that the edge writes, and so does not carry over.
 #[tactic(auto, unfolding(crate::specs::Leads::touches))]
 pub fn touched(edge: &Edge) -> u16
     ensures value { (b : ℕ) → b < 16 → bit result b ≡ touches edge.now b }

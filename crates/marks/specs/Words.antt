@@ -1,4 +1,4 @@
--- Marks as words of 16 bits, one for each location: variable n is bit n, timer n is bit 8 + n.
+-- Marks as words of 16 bits, one for each location: variables have the low eight bits, timers the high eight.
 --   bit w n           bit n of the word w is set
 --   word_at ws p l    the word of location l of process p: the words ws have 16 for each of 8 processes
 --   marks_in ws       the marks in the words

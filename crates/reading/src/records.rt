@@ -19,6 +19,9 @@ pub const EDGE_BITS: usize = 60;
 
 pub const TERM_BITS: usize = 20;
 
+/// No sheet has more bytes: 8 processes of 8 variables and 8 timers, 64 signals, 2,048 edges, 4,096 terms, and 72 names of 15.
+pub const LARGEST_SHEET: usize = 27_078;
+
 /// The bit of a timer that is on.
 const TIMER_ON: u16 = 1 << 15;
 

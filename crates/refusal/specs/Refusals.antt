@@ -4,8 +4,11 @@
 --   edge_refusal b     an edge's refusal: its place is the edge's number
 --   table_refusal f    a table's refusal
 --   outcome told r     None where r is accepted, and the refusal as `told` tells it
+--   refusal_in f       the refusal that a failure carries; none where memory ran out
 --   first ts           the first of the numbered tests ts that applies
 use Rattle.std.specs.Prelude.{ℕ, Bool, cond, List, [], ◌∷◌, Some, None, Ok, Err, Option, Result}
+use Rattle.refusal.specs.declared.failure.Failure.{Failure}
+use Rattle.refusal.specs.declared.failure.Failure.TheVariants.{Refused, OutOfMemory}
 use Rattle.refusal.specs.declared.fault.BadEdge.{BadEdge}
 use Rattle.refusal.specs.declared.fault.EdgeFault.{EdgeFault}
 use Rattle.refusal.specs.declared.fault.EdgeFault.TheVariants.{Missing, Unfit, Malformed, Expression}
@@ -36,6 +39,10 @@ table_refusal (Stuck p l) = refusal 12 Layer.Table (Place.Pair p l)
 abbrev pub outcome : {A E R : Type 0} → (E → R) → Result A E → Option R
 outcome told (Ok x) = None
 outcome told (Err e) = Some (told e)
+
+abbrev pub refusal_in : Failure → Option Refusal
+refusal_in (Refused r) = Some r
+refusal_in OutOfMemory = None
 
 abbrev pub first : {R : Type 0} → List (Bool × R) → Option R
 first [] = None

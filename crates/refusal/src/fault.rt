@@ -54,7 +54,7 @@ pub enum TableFault {
     /// A list, process or signal beyond its limit; the place is that of the process or signal, 0 for a list.
     Limit(usize),
     Edge(BadEdge),
-    /// Both acting and waiting edges leave the location.
+    /// An acting edge and a waiting one leave the same location.
     Mixed { process: usize, location: usize },
     /// An acting location with neither an unguarded nor an else edge.
     Stuck { process: usize, location: usize },

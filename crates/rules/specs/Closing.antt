@@ -2,7 +2,7 @@
 --   invites T e          e is an input of an inbound signal
 --   chaotic T p          some edge of process p is one, so that p gains a chaos timer
 --   closed_process T p r   process p, record r, with its chaos timer, first on(0), behind its own
---   closed_signal s      inbound and outbound signals become absent
+--   closed_signal s      what came from the surroundings or went there is absent
 --   Fate                 what becomes of an edge's move: it stays, waits for chaos, is skipped, or loses its value
 --   fate T M e           what becomes of e
 --   freed T M e          the guard of e goes: it is marked, or e is an else beside a marked guard

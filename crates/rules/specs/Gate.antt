@@ -1,5 +1,5 @@
 -- The worked example: its marks, its closed table, and a run of each.
---   Instance         a variable or timer at a location of its process: process, location and number
+--   Instance         one of a process's variables, or of its timers, at a location: process, location and number
 --   among is p l n   the instance n at location l of process p is one of is
 --   gate_variables, gate_timers   x0 of rx at 0, 1 and 2 and of tx at 0 and 1; t0 of tx at 0 and 1
 --   gate_marks       its marks: these and no other

@@ -3,14 +3,11 @@
 --   RefusedAs bs f    f is the refusal of opening bs, or else that of testing its table
 --   PutInFront vs old new     new is old with vs in the place of its first bytes, if there is room for it, and else as it was
 --   SealedInto bs n old new   bs is closed as a sheet of n bytes, which is put in front
---   seal_refusal e    the refusal that e tells, with its number, layer and place; none where memory ran out
 use Rattle.std.specs.Prelude.{◌≡◌, ℕ, ◌<◌, ◌≤◌, ◌⊎◌, List, ◌++◌, drop, length, Some, None, Ok, Err, Option}
 use Rattle.reading.specs.Opening.{Opened, names_in, opened}
 use Rattle.reading.specs.Spelling.{IsSheet}
 use Rattle.refusal.specs.declared.fault.Refusal.{Refusal}
 use Rattle.rules.specs.Promise.{ClosedBy, Measured}
-use Rattle.sealing.specs.declared.fault.SealError.{SealError}
-use Rattle.sealing.specs.declared.fault.SealError.TheVariants.{Refused, OutOfMemory}
 use Rattle.table.specs.Lists.{Lists}
 
 pub record SealedAs (bs vs : List ℕ) : Type 0 where
@@ -29,7 +26,3 @@ pub record PutInFront (vs old new : List ℕ) : Type 0 where
 
 abbrev pub SealedInto : List ℕ → ℕ → List ℕ → List ℕ → Type 0
 SealedInto bs n old new = (vs : List ℕ) × SealedAs bs vs × (n ≡ length vs) × PutInFront vs old new
-
-abbrev pub seal_refusal : SealError → Option Refusal
-seal_refusal (Refused f) = Some f
-seal_refusal OutOfMemory = None

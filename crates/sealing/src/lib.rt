@@ -1,7 +1,6 @@
 //! A sheet closed: the sheet of the closed table, and a summary for people.
 #![tactic(auto)]
 
-pub mod fault;
 pub mod seal;
 mod summary;
 #[cfg(test)]

@@ -6,18 +6,20 @@ ghost use Rattle.reading.specs.Opening.{names_byte, opened};
 ghost use Rattle.reading.specs.Spelling.{Inverse, IsWritable, area_of};
 ghost use Rattle.rules.specs.Closing.{closed_by};
 ghost use Rattle.rules.specs.Promise.{ClosedBy, Measured};
-ghost use Rattle.sealing.specs.Seals.{PutInFront, RefusedAs, SealedAs, SealedInto, seal_refusal};
+ghost use Rattle.sealing.specs.Seals.{PutInFront, RefusedAs, SealedAs, SealedInto};
 ghost use Rattle.sealing.specs.Summary.{Summarised};
 ghost use Rattle.sheet.specs.Views.{bytes_of, lists_of, opened_of};
 ghost use Rattle.refusal.specs.declared.fault.Refusal.{Refusal};
-ghost use Rattle.sealing.specs.declared.fault.SealError.TheVariants.{Refused};
+ghost use Rattle.refusal.specs.Refusals.{refusal_in};
+ghost use Rattle.refusal.specs.declared.failure.Failure.TheVariants.{Refused};
 ghost use Rattle.writing.specs.Written.{IsWrittenAs, needed};
 
-use crate::fault::SealError;
 use crate::summary::describe;
 use closing::close::close_tested;
 use closing::layer::Layer;
 use marks::marks::Marks;
+use reading::records::LARGEST_SHEET;
+use refusal::failure::Failure;
 use refusal::fault::Refusal;
 use sheet::opening::open_sheet;
 use sheet::view::Sheet;
@@ -25,9 +27,6 @@ use std::alloc::{AllocError, Global};
 use table::questions::Table;
 use writing::fault::WriteFault;
 use writing::write::write_sheet;
-
-/// No sheet has more bytes: 8 processes of 8 variables and 8 timers, 64 signals, 2,048 edges, 4,096 terms, and 72 names of 15.
-const LARGEST_SHEET: usize = 27_078;
 
 /// A closed sheet, and what closing did.
 #[derive(Drop)]
@@ -37,10 +36,10 @@ pub struct Sealed {
 }
 
 /// The sheet of the closed table, with the names that the open one has.
-pub fn seal(heap: Global, bytes: &[u8]) -> Result<Sealed, SealError>
+pub fn seal(heap: Global, bytes: &[u8]) -> Result<Sealed, Failure>
     ensures sealed { IfOk result (λ v. SealedAs bytes.now v.sheet.items) }
     ensures summary { IfOk result (λ v. Summarised bytes.now (string_bytes v.summary)) }
-    ensures refused { IfErr result (λ e. IfSome (seal_refusal e) (RefusedAs bytes.now)) }
+    ensures refused { IfErr result (λ e. IfSome (refusal_in e) (RefusedAs bytes.now)) }
     ensures told { (f : Refusal) → RefusedAs bytes.now f → result ≡ Err (Refused f) }
 {
     let (open, closed, marks) = judge(bytes)?;

@@ -1,2 +1,4 @@
+pub mod Bits
+pub mod Cut
 pub mod Example
 pub mod Views

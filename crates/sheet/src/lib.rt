@@ -1,4 +1,4 @@
-//! A table packed into bytes: opened where it lies, and read without unpacking.
+//! A table packed into bytes: opened where it lies, and read there record by record.
 #![tactic(auto)]
 
 pub mod example;

@@ -9,6 +9,8 @@ ghost use Rattle.reading.specs.Layout.{sheet_format};
 ghost use Rattle.reading.specs.Opening.{edges_bit, names_byte, names_in, placed, split, edge_refused_at, opened};
 ghost use Rattle.reading.specs.Readings.{Reads};
 ghost use Rattle.reading.specs.Spelling.{Inverse, IsTheSheet, area_of, held};
+ghost use Rattle.sheet.specs.Bits.{bits_opened};
+ghost use Rattle.sheet.specs.Cut.{OpensAsCut};
 ghost use Rattle.sheet.specs.Views.{bytes_of, contents_of, lists_of, opened_of};
 
 use crate::view::Sheet;
@@ -78,13 +80,26 @@ fn check_edges(sheet: &Sheet<'_>) -> Result<(), EdgeAt>
     )
 }
 
+/// Reads all fields in their order. The first fault decides. Whether the edges may stand in the table is not looked at.
+#[tactic(auto, unfolding(crate::specs::Bits::bits_opened, crate::specs::Views::contents_of))]
+pub fn open_bits(bytes: &[u8]) -> Result<Sheet<'_>, SheetFault>
+    ensures value { result_map_both opened_of sheet_refusal result ≡ bits_opened bytes.now }
+    ensures bytes { IfOk result (λ s. bytes_of s ≡ bytes.now) }
+    ensures limits { IfOk result (λ s. limits_refused (lists_of s) ≡ None) }
+    ensures place { IfOk result (λ s. s.names_at ≡ names_byte (lists_of s)) }
+{
+    read_sheet(&mut Reader::at(bytes, 0))
+}
+
 /// Reads all fields in their order and then looks at the edges. The first fault decides.
 /// What opens is what the layout writes for a table and its names, and nothing else. So these are the only bytes that writing back
 /// what was opened can give.
-#[tactic(auto, using(reading::proofs::Inverse::inverse), unfolding(reading::specs::Opening::opened, crate::specs::Views::contents_of))]
+/// Of more bytes than the largest sheet has, the first 27,079 decide.
+#[tactic(auto, using(reading::proofs::Inverse::inverse, crate::proofs::Cutting::cut), unfolding(reading::specs::Opening::opened, crate::specs::Views::contents_of))]
 pub fn open_sheet(bytes: &[u8]) -> Result<Sheet<'_>, SheetFault>
     ensures value { result_map_both opened_of sheet_refusal result ≡ opened bytes.now }
     ensures inverse { Inverse bytes.now }
+    ensures cut { OpensAsCut bytes.now }
     ensures again { IfOk result (λ s. IsTheSheet (held (opened_of s)) bytes.now) }
     ensures area { IfOk result (λ s. drop s.names_at bytes.now ≡ area_of (names_in (opened_of s))) }
     ensures bytes { IfOk result (λ s. bytes_of s ≡ bytes.now) }

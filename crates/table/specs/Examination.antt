@@ -1,4 +1,4 @@
--- The examination of a table: number, layer and place of the first refusal that applies.
+-- The examination of a table: which refusal it comes to, told with what looked and where, the one that is looked for earliest.
 --   answer_at f i o      what f answers of the element o with the number i, if it is there
 --   first_at f i xs      the first answer that f gives in xs, whose first element has the number i
 --   first_from h i n     the first of the n numbers from i on that h hits
@@ -10,7 +10,7 @@
 --   some T f p l         some edge that passes f leaves location l of process p
 --   mixed, stuck         the two tests of a location
 --   first_location h ps  the first location that h hits, process by process
---   examined T           the first of 3, then 7 to 10 by edge, 11, 12
+--   examined T           the first refusal of the limits, else of the edges, else of the locations
 use Rattle.std.specs.Prelude.{ℕ, zero, suc, ◌+◌, Bool, true, false, cond, not, ◌&&◌, ◌||◌, List, [], ◌∷◌, length, Some, None, Option, ◌==◌, nat_le, nat_lt}
 use Rattle.std.specs.Option.{option_or, option_map}
 use Rattle.table.specs.Edges.{edge_fault}

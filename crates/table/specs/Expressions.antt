@@ -6,7 +6,7 @@
 --   operands o        how many values an operation takes; it gives one
 --   fitting n t       t is known, reads one of n variables if any, and has argument 0 where none is used
 --   depth_after n t d   how many values there are after t where d were before; None where t is unfit or lacks operands
---   formed n ts d     with d values found before, each operation of ts finds its operands and just one value remains
+--   formed n ts d     where d values lie on the stack before ts, no operation of ts lacks one, and a single value lies there in the end
 --   sound n ts s      the span s lies within ts, has 1 to 16 terms, and is well formed in a process of n variables
 use Rattle.std.specs.Prelude.{ℕ, ◌+◌, ◌-◌, Bool, true, false, cond, ◌&&◌, List, [], ◌∷◌, length, take, drop, ℤ, pos, negsuc, Some, None, Option, ◌==◌, nat_le, nat_lt}
 use Rattle.std.specs.List.{list_any}

@@ -95,7 +95,7 @@ pub fn is_there<T: Table>(table: &T, span: Span) -> bool
     usize::from(span.start) + usize::from(span.count) <= table.term_count()
 }
 
-/// Whether every operation finds its operands and just one value remains.
+/// Whether no operation lacks an operand, and one value alone is left at the end.
 fn is_formed<T: Table>(table: &T, span: Span, variables: u8) -> bool
     ensures { result ≡ formed variables (part (T.lists table.now).terms span) 0 }
 {

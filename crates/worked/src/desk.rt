@@ -1,5 +1,6 @@
 //! A book on a desk: with the memory that each call is lent, and what each call answered.
 
+use crate::telling::tell_refusal;
 use book::book::Book;
 use book::fault::BookFault;
 use refusal::fault::Refusal;
@@ -96,7 +97,7 @@ impl Desk {
 fn tell_number(rt: &HostRuntime, answer: Result<usize, BookFault>) -> anyhow::Result<()> {
     match answer {
         Ok(number) => println!(rt; "{number}")?,
-        Err(fault) => println!(rt; "{}", Refusal::from(fault))?,
+        Err(fault) => tell_refusal(rt, Refusal::from(fault))?,
     }
     Ok(())
 }
@@ -104,7 +105,7 @@ fn tell_number(rt: &HostRuntime, answer: Result<usize, BookFault>) -> anyhow::Re
 fn tell_done(rt: &HostRuntime, answer: Result<(), BookFault>) -> anyhow::Result<()> {
     match answer {
         Ok(()) => println!(rt; "done")?,
-        Err(fault) => println!(rt; "{}", Refusal::from(fault))?,
+        Err(fault) => tell_refusal(rt, Refusal::from(fault))?,
     }
     Ok(())
 }

@@ -1,5 +1,6 @@
 //! A table as it runs, told step by step.
 
+use crate::telling::tell_refusal;
 use refusal::fault::Refusal;
 use rules::step::{Message, Step};
 use stepping::start::start;
@@ -28,7 +29,8 @@ impl<'a, T: Table> Run<'a, T> {
         let mut state = State::new();
         let memory = vec![in rt.alloc(); NO_MESSAGE; 128]?;
         if let Err(fault) = start(table, &mut state, &memory) {
-            println!(rt; "{name} start: {}", Refusal::from(fault))?;
+            print!(rt; "{name} start: ")?;
+            tell_refusal(rt, Refusal::from(fault))?;
         }
         Ok(Run {
             name,
@@ -45,7 +47,10 @@ impl<'a, T: Table> Run<'a, T> {
         match step(self.table, &mut self.state, &mut self.memory, call) {
             Ok(None) => println!(rt; "")?,
             Ok(Some(message)) => println!(rt; ", out goes {}({})", message.signal, message.value)?,
-            Err(fault) => println!(rt; ": {}", Refusal::from(fault))?,
+            Err(fault) => {
+                print!(rt; ": ")?;
+                tell_refusal(rt, Refusal::from(fault))?;
+            }
         }
         Ok(())
     }

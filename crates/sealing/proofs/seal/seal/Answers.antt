@@ -7,7 +7,7 @@ use Rattle.sheet.specs.Views.{lists_of, opened_of}
 use Rattle.sealing.proofs.Fitting.{fits-any}
 use Rattle.sealing.proofs.Sealing.{held, refused-once, sealed, unrefused-view, writable}
 use Rattle.sealing.proofs.Summaries.{summarised}
-use Rattle.sealing.specs.declared.fault.SealError.TheVariants.{Refused}
+use Rattle.refusal.specs.declared.failure.Failure.TheVariants.{Refused}
 use Rattle.sealing.proofs.seal.seal.Goals as goal
 
 pub write_anew-requires : goal.write_anew-requires
