@@ -13,7 +13,7 @@ folder=$(mktemp -d)
 
 # Takes the last line away, which is the sentence; or answers that it is none.
 explained() {
-    tail -n 1 "$1" | grep -q '^[^:]*: .' || return
+    tail -n 1 "$1" | grep -q ': .' || return
     sed -i '$d' "$1"
 }
 
